@@ -1,4 +1,4 @@
--- What clap read, as what the arguments ask for.
+-- What clap reads, as what the arguments ask for.
 use Rattle.std.proofs.Common.{◌≡◌, ◌∙◌, subst, ℕ, Bool, List, [], ◌∷◌, Option, Some, None, Bor, true, false, inl, inr, refl, sym, ap, option_map, unwrap_or}
 use Rattle.std.specs.Option.{option_map_or}
 use Rattle.std.specs.Prelude.{codes, if◌then◌else◌, option_and_then}
@@ -26,7 +26,7 @@ use Rattle.zh_arguments.specs.declared.commands.Query.TheVariants as queries
 use Rattle.zh_arguments.specs.declared.arguments.Task.{Task}
 use Rattle.zh_arguments.specs.declared.arguments.Task.TheVariants as tasks
 
--- the path that was found, or else the empty text
+-- the path that clap found, or else the empty text
 pub path_found : (found : Option (Bor (List ℕ))) (none path : Bor (List ℕ)) (f : Found) (name : Text)
     → option_map (λ s. s.now) found ≡ first_value f name → none.now ≡ [] → path ≡ unwrap_or found none → path.now ≡ path_in name (rows_of f)
 path_found found none path f name first empty is = at found (first ∙ first_value-rows f name) is
@@ -41,7 +41,7 @@ zhcount_is_simple = refl
 pub zhcount_is_free : is_simple_and_free zhcount ≡ true
 zhcount_is_free = refl
 
--- two parts that are known of an option
+-- an option of which two parts are known
 pub parts : {X A B : Type 0} (f : X → A) (g : X → B) (o : Option X) (q : Option (A × B))
     → option_map f o ≡ option_map (λ (p : A × B). p.0) q → option_map g o ≡ option_map (λ (p : A × B). p.1) q → option_map (λ x. (f x, g x)) o ≡ q
 parts f g None None one two = refl
@@ -65,7 +65,7 @@ mapped : {X A B : Type 0} (f : X → A) (g : X → B) (o : Option X) → option_
 mapped f g None = refl
 mapped f g (Some x) = refl
 
--- the name of the command is that of what was read
+-- the name of the command that clap read
 pub named : (m : ArgMatches) → subcommand_name_of m ≡ option_map (λ (p : Text × List Row). p.0) (subcommand_rows_of m)
 named m = mapped (λ b. (out-SubCommand (box_value b)).name.now) (λ b. rows_of (found_of (out-SubCommand (box_value b)).matches)) (out-ArgMatches m).subcommand
 
@@ -98,11 +98,11 @@ either [] next e (inl memory) = inl memory
 either [] next e (inr none) = absurd none
 either (k ∷ ks) next e has = has
 
--- what a command is refused for
+-- the kinds of error for a misused command
 abbrev misuse_kinds : Option (Text × List Row) → Kinds
 misuse_kinds given = option_map_or (λ misuse. kind_by misuse ∷ []) (misuse_in given) []
 
--- what clap refuses, and what is refused of what it takes
+-- what clap refuses, and what is refused of what clap accepts
 pub refused : (a : App) (arguments : List Text) (e : Error) → a ≡ zhcount → (is_simple_and_free a ≡ true → HasKind (fault_of a arguments) e) → HasKind (refusals arguments) e
 unfolding refusals
 refused a arguments e is kinds =
@@ -120,7 +120,7 @@ asks_one : (is_version : Bool) (given : Option (Text × List Row)) (task chosen 
 asks_one true given task chosen asks is = is
 asks_one false given task chosen asks is = subst (Names given) (sym is) asks
 
--- a task that was read
+-- a task was read
 pub asked : (a : App) (arguments : List Text) (task chosen : Task) → a ≡ zhcount → (is_simple_and_free a ≡ true → fault_of a arguments ≡ [])
     → Names (command_in arguments) task → chosen ≡ (if wants_version arguments then tasks.Version else task) → AsksFor arguments chosen
 asked a arguments task chosen is kinds asks or_version = (
@@ -128,7 +128,7 @@ asked a arguments task chosen is kinds asks or_version = (
   asks_one (wants_version arguments) (command_in arguments) task chosen asks or_version,
 )
 
--- a command that was misused
+-- a command was misused
 pub refused_misuse : (a : App) (arguments : List Text) (e : Error) (misuse : Misuse) → a ≡ zhcount
     → (is_simple_and_free a ≡ true → fault_of a arguments ≡ []) → misuse_in (command_in arguments) ≡ Some misuse → kind_of e ≡ kind_by misuse
     → HasKind (refusals arguments) e
@@ -136,6 +136,6 @@ refused_misuse a arguments e misuse is kinds misused kind =
     let all : refusals arguments ≡ kind_by misuse ∷ [] = taken a arguments is kinds ∙ ap (λ (m : Option Misuse). option_map_or (λ misuse. kind_by misuse ∷ []) m []) misused in
     subst (λ (ks : Kinds). HasKind ks e) (sym all) (inr (inl kind))
 
--- memory is no matter of the arguments
+-- refused memory is a possible error for any arguments
 pub out_of_memory : (arguments : List Text) (e : Error) → kind_of e ≡ kinds.OutOfMemory → HasKind (refusals arguments) e
 out_of_memory arguments e memory = inl memory

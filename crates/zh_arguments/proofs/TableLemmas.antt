@@ -1,4 +1,4 @@
--- The table that arguments name.
+-- The table that the arguments name.
 use Rattle.std.proofs.Common.{◌≡◌, ◌≢◌, ◌∙◌, ◌<◌, ◌^◌, ℕ, List, Option, Some, None, Bool, true, false, ◌&&◌, if◌then◌else◌, MatchOption, refl, ap, arith, nat_lt, decimal, codes}
 use Rattle.std.specs.Str.{bytes_eq}
 use Rattle.std.specs.Str.Parse.{digits_value}
@@ -17,7 +17,7 @@ unless_both true true n h = absurd (h refl refl)
 unless_both true false n h = refl
 unless_both false b n h = refl
 
--- a number that was read is that of the numeral
+-- a number that was read is the number of the numeral
 pub number_read : (text : Text) (r : Option ℕ) → MatchOption r ((n : ℕ) → n < 2 ^ 32 → text ≢ decimal n) (λ n. (n < 2 ^ 32) × (text ≡ decimal n)) → r ≡ number_in text
 number_read text None none =
     unless_both (nat_lt (digits_value 10 text) (2 ^ 32)) (bytes_eq text (decimal (digits_value 10 text))) (digits_value 10 text)
@@ -26,19 +26,19 @@ number_read text (Some n) (small, is) =
     let value : digits_value 10 text ≡ n = ap (digits_value 10) is ∙ (decimal_is_IsNumeral n (omega arith)).1 in
     rw (value, lt-ltb n (2 ^ 32) small, equal text (decimal n) is) refl
 
--- the part that was given
+-- the given part
 part_read : (rows : List Row) (m d : Option Text) → m ≡ first_of (codes "municipality") rows → d ≡ first_of (codes "constituency") rows
     → part_of m d ≡ part_of (first_of (codes "municipality") rows) (first_of (codes "constituency") rows)
 part_read rows m d m_is d_is = λ i. part_of (m_is i) (d_is i)
 
--- the table of the name and the part that were given
+-- the table with the given name and part
 pub table_read : (rows : List Row) (m d : Option Text) (name : Text) (part : Part) (result : Option Table) → m
     ≡ first_of (codes "municipality") rows → d ≡ first_of (codes "constituency") rows → name ≡ path_in (codes "of") rows → Some part
     ≡ part_of m d → result ≡ table_named name part → result ≡ table_in rows
 table_read rows m d name part result m_is d_is name_is part_is is =
     is ∙ ap (λ (n : Text). table_named n part) name_is ∙ ap (option_and_then (table_named (path_in (codes "of") rows))) (part_is ∙ part_read rows m d m_is d_is)
 
--- no table without a part
+-- without a part there is no table
 pub no_part : (rows : List Row) (m d : Option Text) (result : Option Table) → m ≡ first_of (codes "municipality") rows → d
     ≡ first_of (codes "constituency") rows → None ≡ part_of m d → result ≡ None → result ≡ table_in rows
 no_part rows m d result m_is d_is part_is is = is ∙ ap (option_and_then (table_named (path_in (codes "of") rows))) (part_is ∙ part_read rows m d m_is d_is)

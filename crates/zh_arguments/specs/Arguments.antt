@@ -1,4 +1,4 @@
--- The arguments of the program, and what they ask for. The program's name is not among them.
+-- The program's arguments, without its own name, and what they ask for.
 use Rattle.std.specs.Prelude.{◌≡◌, Bool, true, false, List, [], ◌∷◌, Option, Some, None, IsSome, option_and_then, Result}
 use Rattle.std.specs.Prelude.{MatchResult, codes}
 use Rattle.std.specs.Option.{option_map_or}
@@ -16,19 +16,19 @@ use Rattle.zh_arguments.specs.declared.arguments.Misuse.TheVariants as misuses
 use Rattle.zh_arguments.specs.Commands.{AsksWith, command_named, misuse_of, paths_of, zhcount}
 use Rattle.zh_arguments.specs.View.{has_flag}
 
--- the command that clap reads in these arguments, with what was given to it
+-- the command that clap finds in these arguments, with its own arguments
 unfoldable pub command_in : List Text → Option (Text × List Row)
 command_in arguments = subcommand_of zhcount arguments
 
--- whether they ask for the version, by a flag that may stand before a command
+-- whether they ask for the version, by a flag that can come before a command
 unfoldable pub wants_version : List Text → Bool
 wants_version arguments = has_flag (codes "version") (matches_of zhcount arguments)
 
--- how what was given is misused, though clap takes it
+-- how these arguments of a command are misused, though clap accepts them
 abbrev pub misuse_in : Option (Text × List Row) → Option Misuse
 misuse_in given = option_and_then (λ command. option_and_then (λ name. misuse_of name command.1) (command_named command.0)) given
 
--- what it is refused for
+-- the kind of error for a misuse
 abbrev pub kind_by : Misuse → ErrorKind
 kind_by misuses.Table = kinds.InvalidValue
 kind_by misuses.Flags = kinds.ArgumentConflict
@@ -36,12 +36,12 @@ kind_by misuses.Source = kinds.ArgumentConflict
 kind_by misuses.Votes = kinds.InvalidValue
 kind_by misuses.Layout = kinds.InvalidValue
 
--- what these arguments are refused for, a call for help among it; nothing where they are taken
+-- the kinds of error with which these arguments can be refused, including a call for help; empty if they are accepted
 unfoldable pub refusals : List Text → Kinds
 refusals arguments =
     or_else (fault_of zhcount arguments) (option_map_or (λ misuse. kind_by misuse ∷ []) (misuse_in (command_in arguments)) [])
 
--- the task that a command asks for; the rehearsal is that of no command
+-- the task that a command asks for; without a command it is the rehearsal
 abbrev pub AsksBy : Option CommandName → List Row → Task → Type 0
 AsksBy None rows task = task ≡ tasks.Rehearse
 AsksBy (Some name) rows task = AsksWith name rows task
@@ -50,19 +50,19 @@ abbrev pub Names : Option (Text × List Row) → Task → Type 0
 Names None task = task ≡ tasks.Rehearse
 Names (Some given) task = AsksBy (command_named given.0) given.1 task
 
--- what a command asks for that works on a disk
+-- the command asks for a task on a disk
 abbrev pub AsksOnDisk : Text × List Row → Task → Type 0
 AsksOnDisk given task = IsSome (paths_of task) × Names (Some given) task
 
--- the task where the version is asked for or not: whatever command stands beside the flag is not carried out
+-- the task, by whether the version is asked for: a command next to that flag is not run
 abbrev pub NamesOrVersion : Bool → Option (Text × List Row) → Task → Type 0
 NamesOrVersion true given task = task ≡ tasks.Version
 NamesOrVersion false given task = Names given task
 
--- these arguments are taken, and ask for this task
+-- these arguments are accepted and ask for this task
 abbrev pub AsksFor : List Text → Task → Type 0
 AsksFor arguments task = (refusals arguments ≡ []) × NamesOrVersion (wants_version arguments) (command_in arguments) task
 
--- the task for which the arguments are taken; an error is refused memory, or what they are refused for
+-- the arguments are accepted and ask for this task, or the error is refused memory or a refusal of the arguments
 abbrev pub ReadsArguments : List Text → Result Task Error → Type 0
 ReadsArguments arguments result = MatchResult result (AsksFor arguments) (HasKind (refusals arguments))

@@ -1,4 +1,4 @@
--- The commands of the program: what each takes, which task it asks for, and how it is misused.
+-- The program's commands: what each accepts, which task it asks for, and how it can be misused.
 use Rattle.std.specs.Prelude.{◌≡◌, true, false, List, [], ◌∷◌, ◌++◌, Option, Some, None, IfSome}
 use Rattle.std.specs.Prelude.{codes, find, fold, if◌then◌else◌, is_none, map, option_map}
 use Rattle.std.specs.Str.{bytes_eq}
@@ -19,12 +19,12 @@ use Rattle.zh_arguments.specs.Table.{path_in, table_in}
 use Rattle.zh_arguments.specs.View.{has_flag, view_in}
 use Rattle.zh_arguments.specs.Votes.{votes_asked}
 
--- all of them, in the order of the help
+-- all commands, in the order of the help
 abbrev pub commands : List CommandName
 commands =
     names.Format ∷ names.Run ∷ names.Load ∷ names.Export ∷ names.List ∷ names.Status ∷ names.Votes ∷ names.Check ∷ names.Seats ∷ []
 
--- how each is written
+-- the name of each command, as it is typed
 abbrev pub word_of : CommandName → Text
 word_of names.Format = codes "format"
 word_of names.Run = codes "run"
@@ -40,12 +40,12 @@ word_of names.Seats = codes "seats"
 abbrev pub disk_rules : List Rule
 disk_rules = argument_rule (codes "setup") ∷ argument_rule (codes "disk") ∷ []
 
--- a set-up and a disk, perhaps with a flag, or a sheet
+-- a set-up, and either a disk, with or without a flag, or a sheet
 abbrev pub source_rules : List Rule
 source_rules =
     argument_rule (codes "setup") ∷ option_rule (codes "disk") ∷ flag_rule (codes "final") ∷ option_rule (codes "sheet") ∷ []
 
--- what each takes; which of these go together is said where they are read
+-- what each command accepts; which of its arguments exclude one another is checked where they are read
 abbrev pub rules_of : CommandName → List Rule
 rules_of names.Format = disk_rules
 rules_of names.Run = disk_rules
@@ -67,17 +67,17 @@ paths_of (tasks.DryRun paths csv) = Some paths
 paths_of (tasks.Show paths query) = Some paths
 paths_of task = None
 
--- these are the paths of a set-up and a disk that were given
+-- these are the given paths of a set-up and a disk
 abbrev pub ArePaths : List Row → Paths → Type 0
 ArePaths rows paths = (paths.setup.now ≡ path_in (codes "setup") rows) × (paths.disk.now ≡ path_in (codes "disk") rows)
 
--- those of a check; an export may be left out
+-- these are the given paths of a check; the export can be left out
 pub record AreCheckPaths (rows : List Row) (paths : CheckPaths) : Type 0 where
   pub setup : paths.setup.now ≡ path_in (codes "setup") rows
   pub sheet : paths.sheet.now ≡ path_in (codes "sheet") rows
   pub held : option_map (λ path. path.now) paths.held ≡ first_of (codes "held") rows
 
--- the task of each, by what was given beside the paths of a set-up and a disk
+-- the task of each command, by its arguments other than the paths of a set-up and a disk
 abbrev pub IsTaskOf : CommandName → List Row → Task → Type 0
 IsTaskOf names.Format rows (tasks.Format paths) = Unit {0}
 IsTaskOf names.Run rows (tasks.Run paths) = Unit {0}
@@ -96,12 +96,12 @@ IsTaskOf names.Seats rows (tasks.SheetSeats setup sheet layout) =
     × (sheet.now ≡ path_in (codes "sheet") rows) × (layout_in rows ≡ Some layout)
 IsTaskOf name rows task = ⊥
 
--- the task that each asks for, by all that was given
+-- the task that each command asks for, by all its arguments
 abbrev pub AsksWith : CommandName → List Row → Task → Type 0
 AsksWith name rows task = IsTaskOf name rows task × IfSome (paths_of task) (ArePaths rows)
 
--- how each is misused, though clap takes it: no name of a table, two flags that exclude each other, seats not of one source, or no
--- name of rows
+-- how a command can be misused though clap accepts it: a value that does not name a table, rows of votes or records of seats, flags
+-- that exclude one another, or not exactly one source of seats
 abbrev pub misuse_of : CommandName → List Row → Option Misuse
 misuse_of names.List rows = if is_none (table_in rows) then Some misuses.Table else None
 misuse_of names.Status rows = if is_none (view_in rows) then Some misuses.Flags else None
@@ -110,18 +110,18 @@ misuse_of names.Seats rows =
     if is_none (source_in rows) then Some misuses.Source else (if is_none (layout_in rows) then Some misuses.Layout else None)
 misuse_of name rows = None
 
--- the command of this name, if it is one
+-- the command with this name, if there is one
 abbrev pub command_named : Text → Option CommandName
 command_named text = find (λ name. bytes_eq text (word_of name)) commands
 
--- a command with all that it takes
+-- a command with everything that it accepts
 abbrev pub app_for : CommandName → App
 app_for name = command_taking (word_of name) (rules_of name)
 
--- a program with this command more
+-- the program with one more command
 abbrev pub with_command : App → CommandName → App
 with_command program name = with_subcommand program (app_for name).top
 
--- the arguments that the program takes: a command or none
+-- the arguments that the program accepts: one command or none
 abbrev pub zhcount : App
 zhcount = fold with_command bare commands

@@ -1,4 +1,4 @@
--- The table that arguments name.
+-- The table that the arguments name.
 use Rattle.std.specs.Prelude.{◌^◌, ℕ, List, [], ◌∷◌, Option, Some, None, ◌&&◌, if◌then◌else◌, nat_lt, find, decimal, codes}
 use Rattle.std.specs.Prelude.{unwrap_or, option_and_then, option_map}
 use Rattle.std.specs.Str.{bytes_eq}
@@ -9,22 +9,22 @@ use Rattle.zh_tables.specs.declared.tables.Part.TheVariants.{Whole, Municipality
 use Rattle.zh_tables.specs.declared.tables.Table.{Table}
 use Rattle.zh_tables.specs.declared.tables.Table.TheVariants.{Constituencies, Municipalities, Groups, Lists, Problems, Returns}
 
--- the path that was given after `--name`; clap sees to it that there is one
+-- the path given after `--name`; clap makes sure that there is one
 abbrev pub path_in : Text → List Row → Text
 path_in name rows = unwrap_or (first_of name rows) []
 
--- the number below 2 ^ 32 with this numeral, which has no sign and no leading 0
+-- the number below 2 ^ 32 with this numeral, which has no sign and no leading zero
 abbrev pub number_in : Text → Option ℕ
 number_in text = let n = digits_value 10 text in if nat_lt n (2 ^ 32) && bytes_eq text (decimal n) then Some n else None
 
--- the part of the set-up that is given by the number of a municipality or that of a constituency, or all of it
+-- the part of the set-up: a municipality or a constituency by its number, or the whole
 abbrev pub part_of : Option Text → Option Text → Option Part
 part_of None None = Some Whole
 part_of (Some m) None = option_map Municipality (number_in m)
 part_of None (Some d) = option_map Constituency (number_in d)
 part_of (Some m) (Some d) = None
 
--- the name of a table
+-- the name of each table
 abbrev pub name_of_table : Table → Text
 name_of_table Constituencies = codes "constituencies"
 name_of_table Municipalities = codes "municipalities"
@@ -33,16 +33,16 @@ name_of_table Lists = codes "lists"
 name_of_table Problems = codes "problems"
 name_of_table (Returns part) = codes "returns"
 
--- the tables of a part; only the returns are of another part than the whole
+-- the tables of a part; only the returns can be limited to a municipality or a constituency
 abbrev pub tables_for : Part → List Table
 tables_for Whole = Constituencies ∷ Municipalities ∷ Groups ∷ Lists ∷ Problems ∷ Returns Whole ∷ []
 tables_for part = Returns part ∷ []
 
--- the table of this name and part, or none where no table has it
+-- the table with this name and part, if there is one
 abbrev pub table_named : Text → Part → Option Table
 table_named name part = find (λ table. bytes_eq name (name_of_table table)) (tables_for part)
 
--- the table that is named, or none where it is not one
+-- the table that the arguments name, if there is one
 abbrev pub table_in : List Row → Option Table
 table_in rows =
     option_and_then (table_named (path_in (codes "of") rows))

@@ -1,4 +1,4 @@
-//! The arguments of the program.
+//! The program's arguments.
 ghost use Rattle.std.specs.Prelude.{◌≡◌, IfOk, MatchResult, Some, codes, if◌then◌else◌, map, option_map};
 ghost use Rattle.std.specs.String.{string_bytes};
 ghost use Rattle.clap.specs.Words.{found_of, kind_of, rows_of};
@@ -16,10 +16,10 @@ use clap::{ArgMatches, Error};
 use std::alloc::{AllocError, Global};
 use zh_tables::Table;
 
-/// The files of the set-up and the disk of a task.
+/// The paths of a task's set-up and disk.
 #[derive(Clone, Copy)]
 pub struct Paths<'a> {
-    /// The path of the set-up, a TOML text.
+    /// The path of the set-up, a TOML file.
     pub setup: &'a str,
     /// The path of the disk.
     pub disk: &'a str,
@@ -28,23 +28,23 @@ pub struct Paths<'a> {
 /// What the program is asked to do.
 #[derive(Clone, Copy)]
 pub enum Task<'a> {
-    /// Serve on the set-up of the rehearsal, on a disk in memory.
+    /// Serve the rehearsal's set-up on a disk in memory.
     Rehearse,
-    /// Make a disk on which nothing has been returned.
+    /// Format a disk, so that nothing has been returned on it.
     Format(Paths<'a>),
-    /// Serve on the disk.
+    /// Serve on a disk.
     Run(Paths<'a>),
     /// Load the returns of a CSV file as one batch.
     Load {
         paths: Paths<'a>,
         csv: &'a str,
     },
-    /// Say what a load of that file would do, and store nothing.
+    /// Report what a load of that file would do, and store nothing.
     DryRun {
         paths: Paths<'a>,
         csv: &'a str,
     },
-    /// Write what a query asks of what is held.
+    /// Write the answer to a query about the count on a disk.
     Show(Paths<'a>, Query),
     /// Write a table of the set-up as CSV.
     List {
@@ -59,18 +59,18 @@ pub enum Task<'a> {
         sheet: &'a str,
         layout: Layout,
     },
-    /// Say which version of the program this is.
+    /// Report the program's version.
     Version,
 }
 
-/// The path that was given after `--name`. Where a command requires it, it is not left out.
+/// The path given after `--name`. A command that requires the path is not accepted without it.
 pub(crate) fn path_in<'a>(given: &ArgMatches<'a>, name: &str) -> &'a str
     ensures { result.now ≡ path_in name.now (rows_of (found_of given.now)) }
 {
     given.get_str(name).unwrap_or("")
 }
 
-/// The paths that were given. The command requires both.
+/// The given paths of a set-up and a disk. The command requires both.
 pub(crate) fn paths_in<'a>(given: &ArgMatches<'a>) -> Paths<'a>
     ensures { ArePaths (rows_of (found_of given.now)) result }
 {
@@ -95,7 +95,7 @@ fn task_for<'a>(command: Option<(&'a str, &ArgMatches<'a>)>) -> Result<Task<'a>,
     }
 }
 
-/// The task that a command asks for, or the version, where its flag was given beside the command.
+/// The task, or the version if its flag was given as well.
 fn or_version<'a>(task: Task<'a>, given: &ArgMatches<'_>) -> Task<'a>
     ensures { result ≡ (if has_flag (codes "version") (rows_of (found_of given.now)) then Task.Version else task.entry) }
 {
@@ -106,7 +106,7 @@ fn or_version<'a>(task: Task<'a>, given: &ArgMatches<'_>) -> Task<'a>
     }
 }
 
-/// The refusal of a command that was misused.
+/// The refusal of a misused command.
 fn refusal(alloc: Global, misuse: Misuse) -> Result<Error, AllocError>
     ensures { IfOk result (λ error. kind_of error ≡ kind_by misuse) }
 {
@@ -132,9 +132,9 @@ fn refusal(alloc: Global, misuse: Misuse) -> Result<Error, AllocError>
     }
 }
 
-/// What the arguments ask for; the program's name is not among them.
+/// What the arguments ask for. They do not include the program's own name.
 ///
-/// An error is refused memory, or a refusal of the arguments with its text. A call for help is refused too.
+/// The error is refused memory, or a refusal of the arguments together with its text. A call for help is refused, too.
 pub fn read_arguments<'a>(alloc: Global, arguments: &'a [String]) -> Result<Task<'a>, Error>
     ensures { ReadsArguments (map string_bytes arguments.now) result }
 {
@@ -145,17 +145,17 @@ pub fn read_arguments<'a>(alloc: Global, arguments: &'a [String]) -> Result<Task
     }
 }
 
-/// How a command that clap takes was misused.
+/// How a command that clap accepts was misused.
 #[derive(Clone, Copy)]
 pub(crate) enum Misuse {
-    /// `list` names no table.
+    /// `list` does not name a table.
     Table,
-    /// `status` has both of its flags.
+    /// `status` has more than one of its three flags.
     Flags,
-    /// `seats` names no source, or two, or has the flag of a disk beside a sheet.
+    /// `seats` does not name exactly one source, or has the flag `--final` with a sheet.
     Source,
-    /// `votes` names no rows.
+    /// `votes` does not name rows.
     Votes,
-    /// `seats` names no records.
+    /// `seats` does not name records.
     Layout,
 }

@@ -11,7 +11,7 @@ use crate::rules::{argument, option, with_setup};
 use clap::{ArgMatches, Command};
 use std::alloc::{AllocError, Global};
 
-/// The files of the set-up, of a published sheet, and of the export that it is compared with, if there is one.
+/// The paths of the set-up, of a published sheet, and of the export that the sheet is compared with, if there is one.
 #[derive(Clone, Copy)]
 pub struct CheckPaths<'a> {
     pub setup: &'a str,
@@ -19,7 +19,7 @@ pub struct CheckPaths<'a> {
     pub held: Option<&'a str>,
 }
 
-/// The command that takes a sheet too, and may have an export.
+/// A command that requires a set-up and a sheet, and accepts an export.
 pub(crate) fn check_command<'a>(
     alloc: Global,
     name: &'a str,
@@ -37,7 +37,7 @@ pub(crate) fn check_command<'a>(
         ))
 }
 
-/// The paths of a check. The command requires the first two; an export may be left out.
+/// The paths of a check. The command requires the first two; the export can be left out.
 pub(crate) fn check_paths_in<'a>(given: &ArgMatches<'a>) -> CheckPaths<'a>
     ensures { AreCheckPaths (rows_of (found_of given.now)) result }
 {

@@ -1,4 +1,4 @@
-//! The commands of the program: what each takes, and the task that it asks for.
+//! The program's commands: what each accepts, and the task that it asks for.
 
 ghost use Rattle.std.specs.Prelude.{◌≡◌, IfOk, MatchResult, Some};
 ghost use Rattle.clap.specs.Words.{app_of, found_of, rows_of};
@@ -18,16 +18,16 @@ use std::alloc::{AllocError, Global};
 use zh_count_tables::VotesOf;
 use zh_tables::View;
 
-/// What is asked of what is held on a disk.
+/// A query about the count on a disk.
 #[derive(Clone, Copy)]
 pub enum Query {
-    /// It as CSV.
+    /// The returns, as CSV.
     Export,
-    /// How far the returns have come in.
+    /// How many returns are in.
     Status(View),
-    /// The votes so far, as CSV or as a table for people.
+    /// The votes so far, as CSV or as a table for reading.
     Votes { of: VotesOf, is_table: bool },
-    /// Its seats.
+    /// The seats.
     Seats { is_final: bool, layout: Layout },
 }
 
@@ -45,7 +45,7 @@ pub(crate) enum CommandName {
     Seats,
 }
 
-/// All of them, in the order of the help.
+/// All commands, in the order of the help.
 const NAMES: [CommandName; 9] = [
     CommandName::Format,
     CommandName::Run,
@@ -59,7 +59,7 @@ const NAMES: [CommandName; 9] = [
 ];
 
 impl CommandName {
-    /// How it is written, and what the help says of the command.
+    /// The command's name as it is typed, and its description in the help.
     fn words<'a>(self) -> (&'a str, &'a str)
         ensures { result.0.now ≡ word_of self }
     {
@@ -94,7 +94,7 @@ impl CommandName {
         }
     }
 
-    /// The command, with all that it takes.
+    /// The command with everything that it accepts.
     fn command<'a>(self, alloc: Global) -> Result<Command<'a>, AllocError>
         ensures { IfOk result (λ command. IsCommand command (app_for self)) }
     {
@@ -112,7 +112,7 @@ impl CommandName {
         }
     }
 
-    /// The task that the command asks for, with what was given to it, or how it was misused.
+    /// The task that the command asks for with these arguments, or how it was misused.
     pub(crate) fn task<'a>(self, given: &ArgMatches<'a>) -> Result<Task<'a>, Misuse>
         ensures { MatchResult result (AsksWith self (rows_of (found_of given.now)))
             (λ misuse. misuse_of self (rows_of (found_of given.now)) ≡ Some misuse) }
@@ -144,7 +144,7 @@ impl CommandName {
     }
 }
 
-/// The command of this name, if it is one.
+/// The command with this name, if there is one.
 pub(crate) fn command_named(text: &str) -> Option<CommandName>
     ensures { result ≡ command_named text.now }
 {
@@ -156,7 +156,7 @@ pub(crate) fn command_named(text: &str) -> Option<CommandName>
     None
 }
 
-/// The arguments that the program takes.
+/// The arguments that the program accepts.
 pub(crate) fn zhcount<'a>(alloc: Global) -> Result<Command<'a>, AllocError>
     ensures { IfOk result (λ command. app_of command ≡ zhcount) }
 {

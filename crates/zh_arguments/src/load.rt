@@ -12,7 +12,7 @@ use crate::view::has_flag;
 use clap::{ArgMatches, Command};
 use std::alloc::{AllocError, Global};
 
-/// The command that takes a CSV file too, and may have a flag.
+/// A command that requires a set-up, a disk and a CSV file, and accepts the flag `--dry-run`.
 pub(crate) fn load_command<'a>(
     alloc: Global,
     name: &'a str,

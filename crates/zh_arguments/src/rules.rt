@@ -1,4 +1,4 @@
-//! What clap is to read of an argument, and of a command.
+//! What clap should read of an argument and of a command.
 
 ghost use Rattle.std.specs.Prelude.{◌≡◌, [], ◌∷◌, IfOk, codes};
 ghost use Rattle.clap.specs.Words.{app_of};
@@ -9,7 +9,7 @@ ghost use Rattle.zh_arguments.specs.Rules.{option_rule};
 use clap::{Arg, ArgAction, Command};
 use std::alloc::{AllocError, Global};
 
-/// A value that may be given after `--name`.
+/// An optional value, after `--name`.
 pub(crate) fn option<'a>(alloc: Global, name: &'a str, value: &'a str, help: &'a str) -> Arg<'a>
     ensures { IsArgument result (option_rule name.now) }
 {
@@ -19,7 +19,7 @@ pub(crate) fn option<'a>(alloc: Global, name: &'a str, value: &'a str, help: &'a
         .help(help)
 }
 
-/// A flag `--name`, which has no value.
+/// A flag `--name`, which takes no value.
 pub(crate) fn flag<'a>(alloc: Global, name: &'a str, help: &'a str) -> Arg<'a>
     ensures { IsArgument result (flag_rule name.now) }
 {
@@ -29,7 +29,7 @@ pub(crate) fn flag<'a>(alloc: Global, name: &'a str, help: &'a str) -> Arg<'a>
         .help(help)
 }
 
-/// A value that has to be given after `--name`.
+/// A required value, after `--name`.
 pub(crate) fn argument<'a>(alloc: Global, name: &'a str, value: &'a str, help: &'a str) -> Arg<'a>
     ensures { IsArgument result (argument_rule name.now) }
 {
@@ -40,7 +40,7 @@ pub(crate) fn argument<'a>(alloc: Global, name: &'a str, value: &'a str, help: &
         .help(help)
 }
 
-/// A command that takes a set-up.
+/// A command that requires a set-up.
 pub(crate) fn with_setup<'a>(
     alloc: Global,
     name: &'a str,
@@ -53,7 +53,7 @@ pub(crate) fn with_setup<'a>(
         .arg(argument(alloc, "setup", "FILE", "The set-up, in TOML"))
 }
 
-/// A command that takes a set-up and a disk.
+/// A command that requires a set-up and a disk.
 pub(crate) fn with_disk<'a>(
     alloc: Global,
     name: &'a str,
@@ -69,7 +69,7 @@ pub(crate) fn with_disk<'a>(
     ))
 }
 
-/// The program before it has commands.
+/// The program without its commands.
 pub(crate) fn bare<'a>(alloc: Global) -> Result<Command<'a>, AllocError>
     ensures { IfOk result (λ command. app_of command ≡ bare) }
 {

@@ -14,18 +14,18 @@ use crate::view::has_flag;
 use clap::{ArgMatches, Command};
 use std::alloc::{AllocError, Global};
 
-/// What seats are shown of.
+/// What the seats are shown for.
 #[derive(Clone, Copy, Debug, PartialEq, Eq)]
 pub enum SeatsOf {
-    /// Of each list that stands.
+    /// For each list that takes part.
     Lists,
-    /// Of each group.
+    /// For each group.
     Groups,
-    /// Of each constituency.
+    /// For each constituency.
     Constituencies,
 }
 
-/// The form in which seats are shown: of what, and as CSV or as a table for people.
+/// The form of the seats: what they are shown for, and whether as CSV or as a table for reading.
 #[derive(Clone, Copy, Debug, PartialEq, Eq)]
 pub struct Layout {
     pub of: SeatsOf,
@@ -35,13 +35,13 @@ pub struct Layout {
 /// Where the seats are taken from.
 #[derive(Clone, Copy)]
 pub(crate) enum Source {
-    /// The count on a disk, as the line `final` or the line `sheet` answers it.
+    /// The count on a disk, as the line `final` or the line `sheet` answers.
     Disk { is_final: bool },
     /// A published sheet.
     Sheet,
 }
 
-/// The command that takes either a disk, perhaps with a flag, or a sheet too.
+/// A command that requires a set-up, and accepts either a disk, with or without a flag, or a sheet.
 fn with_source<'a>(alloc: Global, name: &'a str, about: &'a str) -> Result<Command<'a>, AllocError>
     ensures { IfOk result (λ command. IsCommand command (command_taking name.now source_rules)) }
 {
@@ -60,7 +60,7 @@ fn with_source<'a>(alloc: Global, name: &'a str, about: &'a str) -> Result<Comma
         ))
 }
 
-/// The command that takes a source of seats, and may name their form.
+/// A command that accepts a source of seats and their form.
 pub(crate) fn seats_command<'a>(
     alloc: Global,
     name: &'a str,
@@ -85,7 +85,7 @@ fn is_given(given: &ArgMatches<'_>, name: &str) -> bool
     given.get_str(name).is_some()
 }
 
-/// The source of these arguments: a disk or a sheet, and not both. Only a disk may have the flag.
+/// The source by these arguments: a disk or a sheet, but not both. The flag is allowed only with a disk.
 fn source_of(disk: bool, sheet: bool, is_final: bool) -> Option<Source>
     ensures { result ≡ source_of disk sheet is_final }
 {
@@ -96,7 +96,7 @@ fn source_of(disk: bool, sheet: bool, is_final: bool) -> Option<Source>
     }
 }
 
-/// The source that is asked for, if it is one.
+/// The source that the arguments ask for, if they name exactly one.
 fn source_in(given: &ArgMatches<'_>) -> Option<Source>
     ensures { result ≡ source_in (rows_of (found_of given.now)) }
 {
@@ -107,7 +107,7 @@ fn source_in(given: &ArgMatches<'_>) -> Option<Source>
     )
 }
 
-/// The records of this name, if there are such.
+/// The kind of record with this name, if there is one.
 fn records_named(name: &str) -> Option<SeatsOf>
     ensures { result ≡ records_named name.now }
 {
@@ -119,7 +119,7 @@ fn records_named(name: &str) -> Option<SeatsOf>
     }
 }
 
-/// The records of the name that was given, or those of the lists.
+/// The kind of record with the given name. Without a name it is the lists.
 fn records_by(name: Option<&str>) -> Option<SeatsOf>
     ensures { result ≡ records_by (option_map (λ s. s.now) name.entry) }
 {
@@ -129,7 +129,7 @@ fn records_by(name: Option<&str>) -> Option<SeatsOf>
     }
 }
 
-/// The form of these records, or their table.
+/// The form for this kind of record, as CSV or as a table.
 fn layout_of(records: Option<SeatsOf>, is_table: bool) -> Option<Layout>
     ensures { result ≡ layout_of records is_table }
 {
@@ -139,14 +139,14 @@ fn layout_of(records: Option<SeatsOf>, is_table: bool) -> Option<Layout>
     }
 }
 
-/// The form that is asked for, if it is one.
+/// The form that the arguments ask for, if they name a kind of record.
 fn layout_in(given: &ArgMatches<'_>) -> Option<Layout>
     ensures { result ≡ layout_in (rows_of (found_of given.now)) }
 {
     layout_of(records_by(given.get_str("of")), has_flag(given, "table"))
 }
 
-/// The task that shows seats from this source, in this form.
+/// The task of showing seats from this source in this form.
 fn task_from<'a>(source: Source, layout: Layout, given: &ArgMatches<'a>) -> Task<'a>
     ensures { source_in (rows_of (found_of given.now)) ≡ Some source → layout_in (rows_of (found_of given.now)) ≡ Some layout
         → AsksWith names.Seats (rows_of (found_of given.now)) result }
@@ -163,7 +163,7 @@ fn task_from<'a>(source: Source, layout: Layout, given: &ArgMatches<'a>) -> Task
     }
 }
 
-/// The task that shows seats, if the arguments name one source and one form.
+/// The task of showing seats, if the arguments name exactly one source and a form.
 pub(crate) fn seats_in<'a>(given: &ArgMatches<'a>) -> Result<Task<'a>, Misuse>
     ensures { MatchResult result (AsksWith names.Seats (rows_of (found_of given.now)))
         (λ misuse. misuse_of names.Seats (rows_of (found_of given.now)) ≡ Some misuse) }

@@ -1,4 +1,4 @@
-//! The table that arguments name.
+//! The table that the arguments name.
 
 ghost use Rattle.std.specs.Prelude.{◌≡◌, IfOk, option_map};
 ghost use Rattle.clap.specs.Words.{found_of, rows_of};
@@ -14,7 +14,7 @@ use std::alloc::{AllocError, Global};
 use zh_tables::{Part, Table};
 use zh_text::numeral;
 
-/// The command that takes a table too, and for some a part of the set-up.
+/// A command that requires a set-up and a table, and accepts a part of the set-up for some tables.
 pub(crate) fn list_command<'a>(
     alloc: Global,
     name: &'a str,
@@ -40,7 +40,7 @@ fn number_in(text: &str) -> Option<u32>
     numeral(text.as_bytes())
 }
 
-/// The part of the set-up that is given by the number of a municipality or that of a constituency, or all of it.
+/// The part of the set-up: a municipality or a constituency by its number, or the whole.
 fn part_of(municipality: Option<&str>, constituency: Option<&str>) -> Option<Part>
     ensures { result ≡ part_of (option_map (λ s. s.now) municipality.entry) (option_map (λ s. s.now) constituency.entry) }
 {
@@ -52,7 +52,7 @@ fn part_of(municipality: Option<&str>, constituency: Option<&str>) -> Option<Par
     }
 }
 
-/// The table of this name, if there is one. Only the returns are of a part.
+/// The table with this name and part, if there is one. Only the returns can be limited to a part.
 fn table_named(name: &str, part: Part) -> Option<Table>
     ensures { result ≡ table_named name.now part }
 {
@@ -67,7 +67,7 @@ fn table_named(name: &str, part: Part) -> Option<Table>
     }
 }
 
-/// The table that is named, if it is one.
+/// The table that the arguments name, if there is one.
 pub(crate) fn table_in(given: &ArgMatches<'_>) -> Option<Table>
     ensures { result ≡ table_in (rows_of (found_of given.now)) }
 {

@@ -1,4 +1,4 @@
-//! The view that flags ask for.
+//! The view that the flags ask for.
 
 ghost use Rattle.std.specs.Prelude.{◌≡◌, IfOk};
 ghost use Rattle.clap.specs.Words.{found_of, rows_of};
@@ -13,7 +13,7 @@ use clap::{ArgMatches, Command};
 use std::alloc::{AllocError, Global};
 use zh_tables::View;
 
-/// The command that may have one of three flags.
+/// A command that requires a set-up and a disk, and accepts one of three flags.
 pub(crate) fn status_command<'a>(
     alloc: Global,
     name: &'a str,
@@ -31,14 +31,14 @@ pub(crate) fn status_command<'a>(
         .arg(flag(alloc, "implausible", "Votes that are hardly true"))
 }
 
-/// Whether a flag was given. clap writes `true` or `false` as its value.
+/// Whether a flag was given. clap gives it the value `true` or `false`.
 pub(crate) fn has_flag(given: &ArgMatches<'_>, name: &str) -> bool
     ensures { result ≡ has_flag name.now (rows_of (found_of given.now)) }
 {
     path_in(given, name) == "true"
 }
 
-/// The view that these flags ask for, if not more than one is given.
+/// The view by these flags, if at most one is given.
 fn view_of(constituencies: bool, missing: bool, implausible: bool) -> Option<View>
     ensures { result ≡ view_of constituencies missing implausible }
 {
@@ -51,7 +51,7 @@ fn view_of(constituencies: bool, missing: bool, implausible: bool) -> Option<Vie
     }
 }
 
-/// The view that is asked for, if it is one.
+/// The view that the arguments ask for, if there is one.
 pub(crate) fn view_in(given: &ArgMatches<'_>) -> Option<View>
     ensures { result ≡ view_in (rows_of (found_of given.now)) }
 {

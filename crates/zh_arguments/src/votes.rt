@@ -1,4 +1,4 @@
-//! The arguments of the votes so far.
+//! The arguments of the command `votes`.
 
 ghost use Rattle.std.specs.Prelude.{◌≡◌, IfOk, option_map};
 ghost use Rattle.clap.specs.Words.{found_of, rows_of};
@@ -12,7 +12,7 @@ use clap::{ArgMatches, Command};
 use std::alloc::{AllocError, Global};
 use zh_count_tables::VotesOf;
 
-/// The command that may name what its rows are of.
+/// A command that requires a set-up and a disk, and accepts the kind of its rows and the flag `--table`.
 pub(crate) fn votes_command<'a>(
     alloc: Global,
     name: &'a str,
@@ -25,7 +25,7 @@ pub(crate) fn votes_command<'a>(
         .arg(flag(alloc, "table", "Lines and columns, to be printed"))
 }
 
-/// The rows of this name, if there are such.
+/// The kind of row with this name, if there is one.
 fn votes_named(name: &str) -> Option<VotesOf>
     ensures { result ≡ votes_named name.now }
 {
@@ -36,7 +36,7 @@ fn votes_named(name: &str) -> Option<VotesOf>
     }
 }
 
-/// The rows of the name that was given, or those of the lists.
+/// The kind of row with the given name. Without a name it is the lists.
 fn votes_by(name: Option<&str>) -> Option<VotesOf>
     ensures { result ≡ votes_by (option_map (λ s. s.now) name.entry) }
 {
@@ -46,7 +46,7 @@ fn votes_by(name: Option<&str>) -> Option<VotesOf>
     }
 }
 
-/// The rows that are asked for, if there are such.
+/// The kind of row that the arguments ask for, if there is one.
 pub(crate) fn votes_asked(given: &ArgMatches<'_>) -> Option<VotesOf>
     ensures { result ≡ votes_asked (rows_of (found_of given.now)) }
 {

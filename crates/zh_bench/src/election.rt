@@ -1,4 +1,4 @@
-//! Made-up elections.
+//! Generated elections.
 ghost use Rattle.std.specs.Prelude.{◌≤◌, ◌≡◌, ◌*◌, ◌^◌, All, IfOk, IfSome, IsTrue, length, vec_len};
 ghost use Rattle.zh_decided.specs.Ways.{AreBalanced};
 ghost use Rattle.zh_matrices.specs.Asked.{asked};
@@ -30,7 +30,7 @@ impl Numbers {
         self.state >> 33
     }
 
-    /// Votes of many magnitudes.
+    /// A number of votes, of varying magnitude.
     pub(crate) fn votes(&mut self) -> u64
         ensures some { 1 ≤ result }
         ensures few { result ≤ 100000 }
@@ -40,7 +40,7 @@ impl Numbers {
     }
 }
 
-/// The votes of so many cells.
+/// The votes of this many cells.
 fn votes_of(alloc: Global, numbers: &mut Numbers, cells: usize) -> Result<Vec<u64>, AllocError>
     ensures cells { IfOk result (λ votes. vec_len votes ≡ cells) }
     ensures some { IfOk result (λ votes. All (λ v. 1 ≤ v) votes.items) }
@@ -60,7 +60,7 @@ enum Side {
     Columns,
 }
 
-/// The sum of each line's votes, which are kept row by row.
+/// The sum of each line's votes. The votes are stored row by row.
 fn sums_of(
     alloc: Global,
     votes: &[u64],
@@ -84,14 +84,15 @@ fn sums_of(
     Ok(sums)
 }
 
-/// Whether these are totals of 1 to 400 seats, one for each of so many lines.
+/// Whether these are totals of 1 to 400 seats, one for each of this many lines.
 pub(crate) fn are_totals(lines: usize, totals: &[u32]) -> bool
     ensures { IsTrue result → AreSeatTotals lines totals.now }
 {
     totals.len() == lines && totals.iter().all(|seats| (1..=400).contains(seats))
 }
 
-/// The seats of a house in proportion to these sums, where they are not tied and each has some.
+/// The seats of a house in proportion to these sums, or `None` if the seats are tied, a sum gets none, or a sum exceeds
+/// 10^14.
 fn totals_of(alloc: Global, sums: &[u64], house: u32) -> Result<Option<Shares>, AllocError>
     requires some { 1 ≤ length sums.now }
     requires few { length sums.now ≤ 32 }
@@ -115,7 +116,7 @@ fn totals_of(alloc: Global, sums: &[u64], house: u32) -> Result<Option<Shares>, 
     }
 }
 
-/// Looks for seats, and notes what becomes of them.
+/// Searches for the seats and notes the result.
 fn run_find(
     alloc: Global,
     shape: &Shape,
@@ -139,7 +140,7 @@ fn run_find(
     Ok(())
 }
 
-/// Makes an election with votes of many magnitudes, and notes what becomes of it.
+/// Makes an election with votes of varying magnitude and notes its result.
 fn run_made(
     alloc: Global,
     task: Task,
@@ -164,7 +165,7 @@ fn run_made(
     }
 }
 
-/// Makes an election, and notes what becomes of it.
+/// Makes an election and notes its result.
 pub(crate) fn run_election(
     alloc: Global,
     task: Task,
@@ -178,7 +179,7 @@ pub(crate) fn run_election(
     }
 }
 
-/// Decides a question, and notes the seats where divisors in millionths give them.
+/// Decides a question and notes the seats if divisors in millionths give them.
 pub(crate) fn run_decision(
     alloc: Global,
     question: &Question<'_>,
@@ -200,7 +201,7 @@ pub(crate) fn run_decision(
 /// The votes of each cell.
 const VOTES: u64 = 1000;
 
-/// The seats of a house among so many lines, as even as can be.
+/// The seats of a house, divided as evenly as possible among this many lines.
 fn even_totals(alloc: Global, lines: usize, house: u32) -> Result<Vec<u32>, AllocError>
     requires some { 1 ≤ lines }
     requires few { lines ≤ 32 }
@@ -214,7 +215,7 @@ fn even_totals(alloc: Global, lines: usize, house: u32) -> Result<Vec<u32>, Allo
     Ok(totals)
 }
 
-/// Looks for seats, and notes the tie with the seats that the lot decides.
+/// Searches for the seats and notes the tie with the range of seats of each cell.
 fn run_lot(
     alloc: Global,
     matrix: &Matrix,
@@ -238,7 +239,7 @@ fn run_lot(
     }
 }
 
-/// Makes an election of equal votes, and notes what becomes of it.
+/// Makes an election with equal votes and notes its result.
 pub(crate) fn run_equal(alloc: Global, shape: &Shape, tally: &mut Tally) -> Result<(), AllocError> {
     let (rows, columns) = (shape.rows, shape.columns);
     let votes = vec![in alloc; VOTES; rows * columns]?;

@@ -1,13 +1,13 @@
-//! What is measured: how large the made-up elections are, how many, and which is the first.
+//! What is measured: the size of the generated elections, how many there are, and the number of the first one.
 ghost use Rattle.std.specs.Prelude.{◌≤◌};
 
 #[derive(Clone, Copy)]
 pub(crate) enum Task {
-    /// The search, and the decision where that is exhausted.
+    /// The search, and the decision where the search is exhausted.
     Find,
     /// The decision alone.
     Decide,
-    /// The search where all votes are equal, and the seats that the lot decides.
+    /// The search with equal votes, and the range of seats of each cell.
     Lot,
 }
 
@@ -39,8 +39,8 @@ pub(crate) struct Shape {
 }
 
 impl Shape {
-    /// The shape that arguments ask for: rows, columns, seats of the house, elections, and the number of the first, which
-    /// is 1 where it is left out.
+    /// The shape that the arguments ask for: the number of rows, of columns, of seats of the house, and of elections, and
+    /// the number of the first election, which is 1 if it is left out.
     pub(crate) fn of(arguments: &[String]) -> Option<Self> {
         let rows = arguments.first()?.parse().ok()?;
         let columns = arguments.get(1)?.parse().ok()?;

@@ -1,4 +1,4 @@
-//! What became of elections.
+//! The results of the elections.
 ghost use Rattle.std.specs.Prelude.{◌≡◌, ◌≤◌, length};
 
 use crate::shape::Shape;
@@ -6,7 +6,7 @@ use std::fmt;
 use zh_decided::Findings;
 use zh_lower::Lower;
 
-/// How many had seats, were tied and were exhausted, and a number that all divisors and seats go into.
+/// How many elections had seats, were tied or were exhausted, and a number that all divisors and seats are mixed into.
 #[derive(Clone, Copy, Default)]
 pub(crate) struct Tally {
     found: u64,
@@ -20,7 +20,7 @@ impl Tally {
         self.sum = (self.sum ^ number).wrapping_mul(1_099_511_628_211);
     }
 
-    /// Seats were found, and go into the sum with their divisors.
+    /// Notes that seats were found, and mixes them and their divisors into the sum.
     pub(crate) fn note_found(&mut self, shape: &Shape, lower: &Lower)
         requires rows { length lower.now.divisors.of_rows ≡ shape.now.rows }
         requires columns { length lower.now.divisors.of_columns ≡ shape.now.columns }
@@ -37,7 +37,7 @@ impl Tally {
         }
     }
 
-    /// The seats of a row go into the sum.
+    /// Mixes the seats of a row into the sum.
     fn mix_row(&mut self, shape: &Shape, lower: &Lower, row: u32)
         requires row_from_1 { 1 ≤ row }
         requires row { row ≤ length lower.now.divisors.of_rows }
@@ -54,7 +54,7 @@ impl Tally {
         }
     }
 
-    /// The decision has seats, and they go into the sum after their divisors.
+    /// Notes that the decision has seats, and mixes them into the sum after their divisors.
     pub(crate) fn note_decided(&mut self, findings: &Findings) {
         self.found = self.found.saturating_add(1);
         self.mix_all(&findings.of_rows);
@@ -66,7 +66,7 @@ impl Tally {
         self.tied = self.tied.saturating_add(1);
     }
 
-    /// A tie, and the fewest and the most seats of each cell go into the sum.
+    /// Notes a tie, and mixes the fewest and the most seats of each cell into the sum.
     pub(crate) fn note_lot(&mut self, least: &[u32], most: &[u32]) {
         self.note_tied();
         self.mix_seats(least);

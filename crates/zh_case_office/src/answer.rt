@@ -11,18 +11,19 @@ use zh_decided::{Decision, DecisionRoom, Findings, MarkedRows, are_balanced, dec
 use zh_lower::{Lower, LowerFault, Matrix, NoLower, Ranges, find, find_or_reason, lot};
 use zh_matrices::Question;
 
-/// Who is asked.
+/// What answers the question.
 #[derive(Clone, Copy)]
 pub enum Whom {
-    /// The searches, and for the reason where these are exhausted.
+    /// The search, and for the reason the decision where the search is exhausted.
     Searches,
     /// The decision alone.
     Decision,
-    /// The search, and at a tie for the seats that the lot decides.
+    /// The search, and at a tie the range of seats of each cell.
     Lot,
 }
 
-/// What is decided. Seats have their divisors where the decision alone is asked; else they were missed.
+/// The result of a decision. Seats come with their divisors if the decision alone was asked; otherwise the search missed
+/// them.
 fn decided(alloc: Global, question: &Question<'_>, whom: Whom) -> Result<String, AllocError>
     requires some_column { 1 ≤ question.now.columns }
     requires totals { AreSeatTotals question.now.rows question.now.row_totals.now }
@@ -42,7 +43,7 @@ fn decided(alloc: Global, question: &Question<'_>, whom: Whom) -> Result<String,
     }
 }
 
-/// What becomes of votes that have such totals.
+/// The result of the search for votes with these totals.
 fn searched(
     alloc: Global,
     matrix: &Matrix,
@@ -72,7 +73,7 @@ fn searched(
     }
 }
 
-/// The fewest and the most seats of each cell where the search comes to a tie.
+/// The fewest and the most seats of each cell, if the search ends in a tie.
 fn drawn(
     alloc: Global,
     matrix: &Matrix,
@@ -94,13 +95,13 @@ fn drawn(
     }
 }
 
-/// The answer to the question of a text. Its lines are `rows` and `columns`, each with the seats of its lines, and for each
-/// row `votes`.
+/// The answer to the question in a text. The text has a line `rows` and a line `columns`, each with the totals in seats,
+/// and a line `votes` for each row.
 ///
-/// It is `seats`, row by row, with the divisors of rows and of columns in millionths; `no votes` with a row;
-/// `tied` with a row and a column; or, where they are exhausted, the reason: `impossible` with the rows, `nearly tied` with a
-/// row and a column, or `beyond` or `missed` with the seats. The decision has `seats` with its own divisors, or such a reason.
-/// The lot has `least` and `most` with seats, or `no tie`.
+/// The answer is `seats`, row by row, with the divisors of the rows and of the columns in millionths; `no votes` with a
+/// row; `tied` with a row and a column; or, if the search is exhausted, the reason: `impossible` with the rows, `nearly
+/// tied` with a row and a column, or `beyond` or `missed` with the seats. The decision answers `seats` with its own
+/// divisors, or such a reason. The lot answers `least` and `most` with seats, or `no tie`.
 pub fn answer_to(alloc: Global, text: &str, whom: Whom) -> Result<String, CaseFault> {
     let written = Written::read(alloc, text)?;
     let (row_totals, column_totals) = (
@@ -171,7 +172,7 @@ fn push_column_divisors(text: &mut String, lower: &Lower, columns: u32) -> Resul
     Ok(())
 }
 
-/// The seats, row by row, and the divisors of rows and of columns in millionths.
+/// The seats, row by row, and the divisors of the rows and of the columns in millionths.
 pub(crate) fn found(
     alloc: Global,
     lower: &Lower,
@@ -190,7 +191,7 @@ pub(crate) fn found(
     Ok(text)
 }
 
-/// `impossible`, with those of so many rows that are marked.
+/// `impossible`, with the marked ones of this many rows.
 pub(crate) fn impossible(
     alloc: Global,
     marked: &MarkedRows,
@@ -207,7 +208,7 @@ pub(crate) fn impossible(
     Ok(text)
 }
 
-/// Appends cells, row by row.
+/// Appends the cells, row by row.
 fn push_cells(text: &mut String, cells: &[u32], columns: usize) -> Result<(), AllocError>
     requires { 1 ≤ columns }
 {
@@ -227,7 +228,7 @@ fn push_numbers(text: &mut String, numbers: &[u64]) -> Result<(), AllocError> {
     Ok(())
 }
 
-/// A word, with seats row by row.
+/// A word, with the seats row by row.
 pub(crate) fn with_seats(
     alloc: Global,
     word: &str,
@@ -251,7 +252,7 @@ pub(crate) fn ranges(alloc: Global, ranges: &Ranges, columns: usize) -> Result<S
     Ok(text)
 }
 
-/// The seats that are decided, with their divisors, as `found` has them.
+/// The seats of a decision with their divisors, in the form of `found`.
 pub(crate) fn with_divisors(
     alloc: Global,
     findings: &Findings,

@@ -1,4 +1,4 @@
-//! The cases of files.
+//! Running the cases of files.
 
 use crate::fixture::Fixture;
 use crate::turn::{Runner, run_line};
@@ -7,7 +7,7 @@ use zh_case_text::{
     CaseFault, NamedSetup, NumberedLine, Progress, lines_of, names_of_files, setups_of,
 };
 
-/// Runs lines, and counts the turns and the cases.
+/// Runs lines, counting the turns and the cases.
 fn run_lines<R: Runner>(
     rt: &HostRuntime,
     runner: &R,
@@ -23,7 +23,7 @@ fn run_lines<R: Runner>(
     Ok(())
 }
 
-/// Runs the lines of a text that asks for these set-ups.
+/// Runs the lines of a text that names these set-ups.
 fn run_with<R: Runner>(
     rt: &HostRuntime,
     runner: &R,
@@ -47,7 +47,7 @@ fn run_text<R: Runner>(
     run_with(rt, runner, &setups, &lines, progress)
 }
 
-/// Runs the cases of a file, and prints how it went. It gives the cases and the turns, none where one went wrong.
+/// Runs the cases of a file and prints the result. Returns the counts of cases and turns, or `None` if one went wrong.
 fn run_file<R: Runner>(
     rt: &HostRuntime,
     runner: &R,
@@ -67,7 +67,7 @@ fn run_file<R: Runner>(
     }
 }
 
-/// Runs the files that the arguments name, or else all, and says whether all answers were the expected ones.
+/// Runs the files that the arguments name, or else all of them. Returns whether every answer was as expected.
 pub fn run_files<R: Runner>(rt: &HostRuntime, runner: &R) -> Result<bool, CaseFault> {
     let mut all = Progress::default();
     let mut is_right = true;

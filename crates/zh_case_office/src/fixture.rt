@@ -1,4 +1,4 @@
-//! What a case works on: a set-up, a disk, and the office that is open there.
+//! The fixture of a case: a set-up, a disk, and the office that is open on it.
 
 use crate::reason::reason_of;
 use crate::refusals::Held;
@@ -10,7 +10,7 @@ use zh_districts::Setup;
 use zh_film::Film;
 use zh_office::{FormatFault, NotedReader, Office, OpenFault};
 
-/// What a case works on.
+/// The state that a case works on.
 #[derive(Drop)]
 pub struct Fixture<'s> {
     pub(crate) rt: &'s HostRuntime,
@@ -19,18 +19,18 @@ pub struct Fixture<'s> {
     setup: &'s Setup,
     pub(crate) disk: CaseDisk,
     pub(crate) office: Option<Office<'s>>,
-    /// The place of a sweep's table, after the word `at`.
+    /// The current place in a sweep's table, after the word `at`.
     pub(crate) place: String,
-    /// What was held when the turn `hold` was made last.
+    /// What was held at the last turn `hold`.
     pub(crate) held: Held,
-    /// Whether memory may be refused to the calls of this turn.
+    /// Whether memory can be refused to the calls of this turn.
     pub(crate) is_refusing: bool,
     /// Whether the rest of the case is skipped.
     pub(crate) is_over: bool,
 }
 
 impl<'s> Fixture<'s> {
-    /// The first of the set-ups, and no disk.
+    /// A fixture with the first set-up and no disk.
     pub(crate) fn new(
         rt: &'s HostRuntime,
         setups: &'s [NamedSetup],
@@ -57,7 +57,7 @@ impl<'s> Fixture<'s> {
         self.office = None;
     }
 
-    /// Takes a disk of these bytes, on which no office is open.
+    /// Takes a disk of these bytes, with no office open on it.
     pub(crate) fn take_disk(&mut self, image: &[u8]) -> Result<(), CaseFault> {
         self.close();
         self.disk.take_image(image)
@@ -74,7 +74,7 @@ impl<'s> Fixture<'s> {
         self.disk.image()
     }
 
-    /// A disk of zeros, and the first of the set-ups.
+    /// Begins a case: a disk of zeros and the first set-up.
     pub(crate) fn begin(&mut self) -> Result<(), CaseFault> {
         self.place.clear();
         self.is_over = false;
@@ -91,13 +91,13 @@ impl<'s> Fixture<'s> {
         self.disk.stop(how)
     }
 
-    /// Puts bytes on the disk.
+    /// Writes bytes to the disk.
     pub(crate) fn poke(&mut self, text: &str) -> Result<(), CaseFault> {
         self.close();
         self.disk.poke(text)
     }
 
-    /// Goes back to the disk at the beginning of a sweep, for the next place of its table.
+    /// Restores the disk as it was at the beginning of a sweep, for the next place in its table.
     pub(crate) fn back(&mut self, place: &str) -> Result<(), CaseFault> {
         self.place = joined(self.alloc, &[" at ", place])?;
         self.close();
@@ -135,7 +135,8 @@ impl<'s> Fixture<'s> {
         Ok(answer)
     }
 
-    /// How a copy of the disk is opened that has these bytes from a place on; or `changed`, where that changes it.
+    /// The result of opening a copy of the disk that has these bytes from a place on, or `changed` if opening changes the
+    /// copy.
     pub(crate) fn damage(&mut self, text: &str) -> Result<&'static str, CaseFault> {
         let image = self.disk.damaged(text)?;
         let mut disk = disk_of(self.alloc, &image)?;
@@ -147,7 +148,7 @@ impl<'s> Fixture<'s> {
         }
     }
 
-    /// What the office answers to these bytes and a line's end.
+    /// The office's answer to these bytes and an LF.
     pub(crate) fn send(&mut self, bytes: &[u8]) -> Result<String, CaseFault> {
         let mut text = bytes.to_vec(self.alloc)?;
         text.push(b'\n')?;
@@ -166,7 +167,7 @@ impl<'s> Fixture<'s> {
         lines_in(self.alloc, &out)
     }
 
-    /// What comes of serving a text within these limits.
+    /// The result of serving a text within these limits.
     pub(crate) fn serve(&mut self, text: &[u8], limits: Limits) -> Result<String, CaseFault> {
         let Some(office) = &mut self.office else {
             return Ok(String::from_str(self.alloc, "closed")?);
@@ -175,8 +176,8 @@ impl<'s> Fixture<'s> {
         serve_within(self.alloc, office, disk, text, limits)
     }
 
-    /// What the office answers to a text that is loaded byte by byte. There is no desk in it. With a limit it also says how
-    /// many bytes were not read.
+    /// The office's answer to loading a text that is read byte by byte. The answer has no desk. With a limit it also says
+    /// how many bytes were not read.
     pub(crate) fn load(&mut self, text: &[u8], limits: Limits) -> Result<String, CaseFault> {
         let mark = self.mark()?;
         let Some(office) = &mut self.office else {
@@ -189,7 +190,7 @@ impl<'s> Fixture<'s> {
         loaded(self.alloc, &reply, limits, &input)
     }
 
-    /// What the office exports.
+    /// The office's export.
     pub(crate) fn export(&self) -> Result<String, CaseFault> {
         let out = Vec::with_capacity(self.alloc, ROOM)?;
         let mark = self.mark()?;
@@ -214,7 +215,7 @@ impl<'s> Fixture<'s> {
     }
 }
 
-/// Opens the office on a disk, and says how it went.
+/// Opens the office on a disk and returns it with the result in a word.
 pub(crate) fn open_on<'s>(
     alloc: Global,
     setup: &'s Setup,
@@ -230,7 +231,7 @@ pub(crate) fn open_on<'s>(
     }
 }
 
-/// How opening the office on a disk goes.
+/// The result of opening the office on a disk, in a word.
 pub(crate) fn opening_of(alloc: Global, setup: &Setup, disk: &mut Device) -> &'static str {
     open_on(alloc, setup, disk).1
 }

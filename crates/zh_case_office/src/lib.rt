@@ -1,4 +1,4 @@
-//! The office of a case, its questions, and the turns on both and on files.
+//! Makes the turns of a case: on its office and its disk, on questions and on files.
 #![tactic(auto)]
 
 mod answer;

@@ -1,4 +1,4 @@
-//! Questions: their text, their limits, and the turns on them.
+//! Questions: their text, their limits and the turns that ask them.
 ghost use Rattle.std.specs.Prelude.{◌≡◌, ◌*◌, ◌^◌, ◌<◌, ◌≤◌, All, IsTrue, length};
 ghost use Rattle.zh_matrices.specs.Asked.{asked};
 ghost use Rattle.zh_matrices.specs.Question.{AreSeatTotals, EachColumnHasVotes, HasVotes, column_votes};
@@ -10,7 +10,7 @@ use std::fs;
 use zh_case_text::{CaseFault, number_of};
 use zh_matrices::Question;
 
-/// What becomes of a question.
+/// The answer to a question.
 fn answer(
     rt: &HostRuntime,
     fixture: &Fixture<'_>,
@@ -26,7 +26,7 @@ fn answer(
     }
 }
 
-/// What becomes of the question in a file.
+/// The answer to the question in a file.
 pub(crate) fn ask(
     rt: &HostRuntime,
     fixture: &Fixture<'_>,
@@ -37,7 +37,7 @@ pub(crate) fn ask(
     answer(rt, fixture, text.as_str(), whom)
 }
 
-/// Which seats the lot decides of a question.
+/// The range of seats of each cell in a question, if the search ends in a tie.
 pub(crate) fn ask_lot(
     rt: &HostRuntime,
     fixture: &Fixture<'_>,
@@ -46,7 +46,7 @@ pub(crate) fn ask_lot(
     answer(rt, fixture, question, Whom::Lot)
 }
 
-/// Votes row by row, and the seats that each row and each column is to get.
+/// The votes row by row, and the seats that each row and each column must get.
 #[derive(Drop)]
 pub(crate) struct Written {
     pub(crate) row_totals: Vec<u32>,
@@ -84,7 +84,7 @@ fn read_votes(votes: &mut Vec<u64>, words: &str) -> Result<(), CaseFault> {
 }
 
 impl Written {
-    /// Takes one part: `rows` or `columns` with their totals, or `votes` with those of the next row.
+    /// Takes one part: `rows` or `columns` with their totals, or `votes` with the votes of the next row.
     fn take(&mut self, line: &str) -> Result<(), CaseFault> {
         let (word, rest) = line.split_once(' ').unwrap_or((line, ""));
         match word {
@@ -95,7 +95,7 @@ impl Written {
         }
     }
 
-    /// Takes what stands in one line, with commas between.
+    /// Takes the parts of one line, which commas separate.
     fn take_all(&mut self, line: &str) -> Result<(), CaseFault> {
         for part in line.split(", ") {
             self.take(part)?;
@@ -103,7 +103,7 @@ impl Written {
         Ok(())
     }
 
-    /// The question of a text.
+    /// Reads the question in a text.
     pub(crate) fn read(alloc: Global, text: &str) -> Result<Written, CaseFault> {
         let mut written = Written {
             row_totals: Vec::new(alloc),
@@ -120,7 +120,7 @@ impl Written {
 /// The most votes of a cell.
 const MOST_VOTES: u64 = 100_000_000_000_000;
 
-/// Whether there are 1 to 32 lines, each with 1 to 400 seats.
+/// Whether there are 1 to 32 totals, each of 1 to 400 seats.
 pub(crate) fn are_totals(totals: &[u32]) -> bool
     ensures some { IsTrue result → 1 ≤ length totals.now }
     ensures few { IsTrue result → length totals.now ≤ 32 }
@@ -129,7 +129,7 @@ pub(crate) fn are_totals(totals: &[u32]) -> bool
     (1..=32).contains(&totals.len()) && totals.iter().all(|seats| (1..=400).contains(seats))
 }
 
-/// Whether there are so many cells, each with as many votes as there may be.
+/// Whether there are this many cells, none with more than 10^14 votes.
 pub(crate) fn are_votes(cells: usize, votes: &[u64]) -> bool
     ensures cells { IsTrue result → length votes.now ≡ cells }
     ensures few { IsTrue result → All (λ v. v ≤ 10 ^ 14) votes.now }
@@ -137,7 +137,7 @@ pub(crate) fn are_votes(cells: usize, votes: &[u64]) -> bool
     votes.len() == cells && votes.iter().all(|votes| *votes <= MOST_VOTES)
 }
 
-/// Whether a column has a vote.
+/// Whether a column has votes.
 fn column_has_votes(question: &Question<'_>, column: usize) -> bool
     requires { column < question.now.columns }
     ensures { IsTrue result → HasVotes question.now.rows (column_votes (asked question.now) column) }
@@ -150,7 +150,7 @@ fn column_has_votes(question: &Question<'_>, column: usize) -> bool
     false
 }
 
-/// Whether each column has a vote.
+/// Whether every column has votes.
 pub(crate) fn each_column_has_votes(question: &Question<'_>) -> bool
     ensures { IsTrue result → EachColumnHasVotes (asked question.now) }
 {

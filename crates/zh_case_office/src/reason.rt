@@ -9,12 +9,12 @@ use zh_returns::Count;
 use zh_sheet::{ExhaustedReason, ListSeats, NoSheet, SheetFault, make_or_reason};
 use zh_totals::Totals;
 
-/// The answer where memory was refused.
+/// The answer if memory was refused.
 fn memory(alloc: Global) -> Result<String, CaseFault> {
     Ok(String::from_str(alloc, "memory")?)
 }
 
-/// Appends the lists of a constituency that have seats, each with its constituency, its group and its seats.
+/// Appends the lists of a constituency that have seats, each as its constituency, its group and its seats.
 fn push_lists(
     alloc: Global,
     text: &mut String,
@@ -36,7 +36,7 @@ fn push_lists(
     Ok(())
 }
 
-/// A word, with the seats of lists.
+/// A word and the seats of the lists.
 fn with_lists(alloc: Global, word: &str, lists: &ListSeats) -> Result<String, AllocError> {
     let mut text = String::from_str(alloc, word)?;
     for place in 0..lists.constituencies() {
@@ -45,7 +45,7 @@ fn with_lists(alloc: Global, word: &str, lists: &ListSeats) -> Result<String, Al
     Ok(text)
 }
 
-/// The reason of an exhausted search, in so many constituencies.
+/// The reason for an exhausted search over this many constituencies.
 fn exhausted(
     alloc: Global,
     reason: &ExhaustedReason,
@@ -63,7 +63,8 @@ fn exhausted(
     }
 }
 
-/// Why the seats of the lists of a count are exhausted, or the fault before. `mark` stands round the calls.
+/// Why the search for the seats of a count's lists is exhausted, or the earlier fault. `mark` is held open during the
+/// calls.
 pub fn reason_of(
     alloc: Global,
     count: &Count<'_>,

@@ -1,4 +1,4 @@
-//! Turns while memory may be refused. tests/test_refused.py refuses it, one allocation of a turn in each run.
+//! Turns during which memory can be refused. tests/test_refused.py refuses one allocation of a turn in each run.
 
 use crate::fixture::Fixture;
 use crate::turn::{act, see};
@@ -8,10 +8,10 @@ use zh_case_text::{CaseFault, Device, image_of, joined, print_line, spelled};
 use zh_office::Office;
 use zh_returns::{Count, PAYLOAD_LENGTH};
 
-/// tests/refuse.c counts the allocations that are made while a file of this name is open.
+/// tests/refuse.c counts the allocations that are made while a file with this name is open.
 const MARK: &str = "refuse";
 
-/// The bytes of a disk, and those of the count of the office on it, none where none is open.
+/// The bytes of a disk and of the count of the office that is open on it. Without an open office the latter are empty.
 #[derive(Drop)]
 pub(crate) struct Held {
     image: Vec<u8>,
@@ -46,14 +46,14 @@ impl Held {
         Ok(Held { image, count })
     }
 
-    /// Whether a disk holds the same, and its office too, if one is open.
+    /// Whether `now` has the same disk and, if an office is open, the same count.
     pub(crate) fn is_held_by(&self, now: &Held) -> bool {
         self.image == now.image && (now.count.is_empty() || self.count == now.count)
     }
 }
 
 impl Fixture<'_> {
-    /// Stands round a call to which memory may be refused.
+    /// A mark that is held open during a call to which memory can be refused.
     pub(crate) fn mark(&self) -> Result<Option<File>, CaseFault> {
         if self.is_refusing {
             Ok(Some(File::create(self.rt, MARK)?))
@@ -62,7 +62,7 @@ impl Fixture<'_> {
         }
     }
 
-    /// The commands that the open office has accepted, none where none is open.
+    /// The number of commands that the open office has accepted, or 0 if no office is open.
     pub(crate) fn accepted(&self) -> u64 {
         match &self.office {
             Some(office) => office.count().accepted(),
@@ -74,13 +74,13 @@ impl Fixture<'_> {
         Held::of(self.alloc, &self.office, self.disk.device()?)
     }
 
-    /// Keeps what the disk and its office hold.
+    /// Keeps the contents of the disk and its office.
     pub(crate) fn hold(&mut self) -> Result<(), CaseFault> {
         self.held = self.holdings()?;
         Ok(())
     }
 
-    /// `ok` where they hold what was kept last.
+    /// `ok` if the contents are those that were kept last.
     pub(crate) fn compare(&mut self) -> Result<&'static str, CaseFault> {
         if self.is_as_held()? {
             Ok("ok")
@@ -89,14 +89,14 @@ impl Fixture<'_> {
         }
     }
 
-    /// Whether they hold what was kept last.
+    /// Whether the contents are those that were kept last.
     fn is_as_held(&mut self) -> Result<bool, CaseFault> {
         let now = self.holdings()?;
         Ok(self.held.is_held_by(&now))
     }
 }
 
-/// What an answer says of memory. A disk that is refused memory is a device that failed.
+/// What an answer reports about memory. A disk to which memory is refused is a device that failed.
 #[derive(Clone, Copy, PartialEq)]
 enum Report {
     Nothing,
@@ -114,8 +114,8 @@ fn report_of(answer: &str) -> Report {
     }
 }
 
-/// Opens the office on a disk that failed under a turn, and says whether it has so many commands or one more. After a
-/// formatting the disk may be blank too, and the count is the old one or the empty one.
+/// Opens the office on a disk that failed during a turn. Returns whether it has `before` commands or one more. After
+/// formatting, the disk can also be blank, or hold the old count or the empty one.
 fn is_between(fixture: &mut Fixture<'_>, turn: &str, before: u64) -> Result<bool, CaseFault> {
     let opened = fixture.open()?;
     let accepted = fixture.accepted();
@@ -126,7 +126,7 @@ fn is_between(fixture: &mut Fixture<'_>, turn: &str, before: u64) -> Result<bool
     })
 }
 
-/// Whether all is as it was before the turn, or as it may be after a device that failed.
+/// Whether everything is as before the turn, or as a device that failed can leave it.
 fn is_right(
     fixture: &mut Fixture<'_>,
     turn: &str,
@@ -139,8 +139,9 @@ fn is_right(
     Ok((turn == "format" || fixture.accepted() == before) && is_between(fixture, turn, before)?)
 }
 
-/// Makes a turn while memory may be refused to it, `TURN -> ANSWER or OTHER`. Where it answers that, what it has to leave is
-/// looked at, and the turn is made again. After `device` the other answer may be given too; `end` ends the case.
+/// Makes a turn during which memory can be refused, `TURN -> ANSWER or OTHER`. If the answer reports refused memory, this
+/// checks what the turn left and makes the turn again. After `device` the second answer can also be OTHER; if OTHER is
+/// `end`, the case ends.
 pub(crate) fn refuse(
     rt: &HostRuntime,
     fixture: &mut Fixture<'_>,

@@ -1,4 +1,4 @@
-//! What an office is sent: a line, or a text that comes byte by byte.
+//! What an office is sent: a line, or a text that arrives byte by byte.
 
 use std::alloc::Global;
 use zh_case_text::{
@@ -8,19 +8,19 @@ use zh_commands::{Reply, write_reply};
 use zh_film::Film;
 use zh_office::Office;
 
-/// How many reads an office may make of a line.
+/// How many reads an office is allowed for a line.
 pub(crate) const READS_OF_LINE: u64 = 1_000;
 
-/// Room for the answer to most lines, so that no memory is taken for it while it is written.
+/// Room for the answer to most lines, so that writing it takes no memory.
 pub(crate) const ROOM: usize = 4_000;
 
-/// After how many reads serving a text ends, and after how many bytes its input and writes its output fail.
+/// After how many reads serving a text ends, and after how many bytes its input and how many writes its output fail.
 #[derive(Clone, Copy)]
 pub(crate) struct Limits {
     reads: u64,
     input: u64,
     output: u64,
-    /// The most bytes that a write takes.
+    /// The most bytes that one write takes.
     takes: usize,
 }
 
@@ -33,7 +33,7 @@ impl Limits {
     }
 }
 
-/// The reply to a text that was loaded, without its desk, and after a limit how many of its bytes were not read.
+/// The reply to a loaded text, without its desk. With a limit it also says how many bytes were not read.
 pub(crate) fn loaded(
     alloc: Global,
     reply: &Reply,
@@ -50,7 +50,7 @@ pub(crate) fn loaded(
     Ok(answer)
 }
 
-/// The name of a text's file, and the limits within which it is served: `NAME`, or `NAME reads 3` and the like.
+/// The name of a text's file and the limits for serving it, for example `NAME` or `NAME reads 3`.
 pub(crate) fn read_limits(text: &str) -> Result<(&str, Limits), CaseFault> {
     let mut limits = Limits {
         reads: u64::MAX,
@@ -76,7 +76,7 @@ pub(crate) fn read_limits(text: &str) -> Result<(&str, Limits), CaseFault> {
     Ok((name, limits))
 }
 
-/// How serving a text ends, after how many lines or with which fault, and the lines that are written.
+/// How serving a text ended (after how many lines, or with which fault) and the lines that were written.
 pub(crate) fn serve_within(
     alloc: Global,
     office: &mut Office<'_>,

@@ -1,4 +1,4 @@
-//! A turn: what is done, and the answer that is expected.
+//! A turn: what is done and the expected answer.
 
 use crate::answer::Whom;
 use crate::fixture::Fixture;
@@ -11,7 +11,7 @@ use zh_case_text::{
     save,
 };
 
-/// A line of a desk: it begins with a digit, or stands in quotes.
+/// A desk's line: a text that begins with a digit or is in quotes.
 fn line_in<'t>(text: &'t str) -> Option<&'t str> {
     if text.starts_with(|c: char| c.is_ascii_digit()) {
         return Some(text);
@@ -19,7 +19,7 @@ fn line_in<'t>(text: &'t str) -> Option<&'t str> {
     text.strip_prefix('"')?.strip_suffix('"')
 }
 
-/// Makes a turn, and gives the answer.
+/// Makes a turn and returns its answer.
 pub(crate) fn act(
     rt: &HostRuntime,
     fixture: &mut Fixture<'_>,
@@ -75,7 +75,7 @@ fn act_on_office(
     }
 }
 
-/// Makes a turn that changes what the case works on.
+/// Makes a turn that changes the state that the case works on.
 fn change(
     rt: &HostRuntime,
     fixture: &mut Fixture<'_>,
@@ -93,7 +93,7 @@ fn change(
     }
 }
 
-/// Makes a turn that changes how the disk works, or keeps a copy of it.
+/// Makes a turn that changes how the disk works, or keeps a copy of the disk.
 fn change_disk(disk: &mut CaseDisk, word: &str, rest: &str) -> Result<(), CaseFault> {
     match word {
         "fail" => disk.fail(read_number(rest)?),
@@ -103,7 +103,7 @@ fn change_disk(disk: &mut CaseDisk, word: &str, rest: &str) -> Result<(), CaseFa
     }
 }
 
-/// Whether this answer is the expected one. Two dots at an expected answer's end stand for whatever follows.
+/// Whether this answer is as expected. Two dots at the end of the expected answer match any rest.
 fn is_expected(expected: &str, found: &str) -> bool {
     match expected.strip_suffix("..") {
         Some(front) => found.starts_with(front.trim_end()),
@@ -111,7 +111,7 @@ fn is_expected(expected: &str, found: &str) -> bool {
     }
 }
 
-/// Sees that a turn is answered as is expected.
+/// Checks that the answer to a turn is as expected.
 pub(crate) fn see(
     rt: &HostRuntime,
     fixture: &Fixture<'_>,
@@ -137,7 +137,7 @@ pub(crate) fn see(
     Err(CaseFault::Wrong(joined(rt.alloc(), &parts)?))
 }
 
-/// What is done, and the answer that is expected: `TURN -> ANSWER`. Without an arrow the answer is to be `ok`.
+/// The turn and its expected answer, `TURN -> ANSWER`. Without an arrow the expected answer is `ok`.
 fn turn_of(text: &str) -> (&str, &str) {
     match text.rsplit_once("->") {
         Some((turn, expected)) => (turn.trim_end(), expected.trim_start()),
@@ -147,7 +147,7 @@ fn turn_of(text: &str) -> (&str, &str) {
 
 /// Makes the turns that run the program.
 pub trait Runner {
-    /// The answer to such a turn, none where this word asks for no run.
+    /// The answer to such a turn, or `None` if this word does not ask for a run.
     fn run(
         &self,
         rt: &HostRuntime,
@@ -157,7 +157,7 @@ pub trait Runner {
     ) -> Result<Option<String>, CaseFault>;
 }
 
-/// Makes a turn that may run the program, and gives the answer.
+/// Makes a turn, which can be a run of the program, and returns its answer.
 fn act_or_run<R: Runner>(
     rt: &HostRuntime,
     runner: &R,
@@ -171,7 +171,7 @@ fn act_or_run<R: Runner>(
     }
 }
 
-/// Makes the turn of a line, and sees that it is answered as is expected.
+/// Makes the turn of a line and checks that the answer is as expected.
 pub(crate) fn run_line<R: Runner>(
     rt: &HostRuntime,
     runner: &R,

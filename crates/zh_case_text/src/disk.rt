@@ -1,4 +1,4 @@
-//! The disk of a case: its bytes, its calls and the turns on it.
+//! The disk of a case: its bytes, its calls and the turns that act on it.
 
 use crate::progress::CaseFault;
 use crate::texts::{joined, spelled};
@@ -9,17 +9,17 @@ use zh_disk::{DISK_LENGTH, Disk, DiskFault, FailingDisk, MemoryDisk, OnceDisk, S
 
 const NO_CASE: CaseFault = CaseFault::Text("no case has begun");
 
-/// The disk of a case, none before one has begun.
+/// The disk of a case. There is none before a case has begun.
 #[derive(Drop)]
 pub struct CaseDisk {
     alloc: Global,
     device: Option<Device>,
-    /// Its bytes at the beginning of a sweep.
+    /// The disk's bytes at the beginning of a sweep.
     marked: Vec<u8>,
 }
 
 impl CaseDisk {
-    /// No disk.
+    /// A case without a disk.
     pub fn none(alloc: Global) -> CaseDisk {
         CaseDisk {
             alloc,
@@ -59,7 +59,7 @@ impl CaseDisk {
         image_of(alloc, self.device()?)
     }
 
-    /// The calls of the disk since they were asked for last.
+    /// The number of calls of each kind since `calls` was last asked.
     pub fn calls(&mut self) -> Result<String, CaseFault> {
         let alloc = self.alloc;
         let disk = self.device()?;
@@ -78,7 +78,7 @@ impl CaseDisk {
         Ok(joined(alloc, &counts)?)
     }
 
-    /// Takes the disk out of what lets it fail.
+    /// Takes the disk in memory out of its wrappers.
     fn take_memory(&mut self) -> Result<MemoryDisk, CaseFault> {
         match self.device.take() {
             Some(device) => Ok(device.inner.into_inner().into_inner()),
@@ -86,19 +86,19 @@ impl CaseDisk {
         }
     }
 
-    /// Lets the disk fail after so many calls.
+    /// Makes the disk fail after this many calls.
     pub fn fail(&mut self, calls: u64) -> Result<(), CaseFault> {
         self.device = Some(failing(self.take_memory()?, calls));
         Ok(())
     }
 
-    /// Lets the disk fail in the call after so many, and work again.
+    /// Makes the disk fail once, in the call after this many, and then work again.
     pub fn fail_once(&mut self, calls: u64) -> Result<(), CaseFault> {
         self.device = Some(failing_once(self.take_memory()?, calls));
         Ok(())
     }
 
-    /// Lets the disk work again.
+    /// Makes the disk work again.
     pub fn mend(&mut self) -> Result<(), CaseFault> {
         self.device = Some(whole(self.take_memory()?));
         Ok(())
@@ -112,7 +112,7 @@ impl CaseDisk {
         Ok(())
     }
 
-    /// A copy of the disk's bytes that has these from a place on.
+    /// A copy of the disk's bytes, with these bytes from a place on.
     pub fn damaged(&mut self, text: &str) -> Result<Vec<u8>, CaseFault> {
         let (place, bytes) = read_place(self.alloc, text)?;
         let mut image = self.image()?;
@@ -120,13 +120,13 @@ impl CaseDisk {
         Ok(image)
     }
 
-    /// Puts bytes on the disk.
+    /// Writes bytes to the disk.
     pub fn poke(&mut self, text: &str) -> Result<(), CaseFault> {
         let image = self.damaged(text)?;
         self.take_image(&image)
     }
 
-    /// `ok` where these bytes stand on the disk from a place on, and else what stands there.
+    /// `ok` if the disk has these bytes from a place on; otherwise the bytes that it has there.
     pub fn holds(&mut self, text: &str) -> Result<String, CaseFault> {
         let (place, bytes) = read_place(self.alloc, text)?;
         let image = self.image()?;
@@ -137,13 +137,13 @@ impl CaseDisk {
         }
     }
 
-    /// Keeps a copy of the disk for the places of a sweep's table.
+    /// Keeps a copy of the disk for the places in a sweep's table.
     pub fn keep(&mut self) -> Result<(), CaseFault> {
         self.marked = self.image()?;
         Ok(())
     }
 
-    /// Goes back to that copy.
+    /// Restores that copy.
     pub fn back(&mut self) -> Result<(), CaseFault> {
         let image = self.marked.as_slice().to_vec(self.alloc)?;
         self.take_image(&image)
@@ -158,7 +158,7 @@ pub fn disk_of(alloc: Global, image: &[u8]) -> Result<Device, CaseFault> {
     Ok(whole(MemoryDisk::new(alloc, image)?))
 }
 
-/// As many zeros as a disk has bytes.
+/// As many zeros as the length of a disk.
 pub(crate) fn zeros(alloc: Global) -> Result<Vec<u8>, CaseFault> {
     Ok(vec![in alloc; 0; DISK_LENGTH as usize]?)
 }
@@ -170,7 +170,7 @@ pub fn image_of(alloc: Global, disk: &mut Device) -> Result<Vec<u8>, CaseFault> 
     Ok(image)
 }
 
-/// The image with these bytes from a place on.
+/// Writes these bytes into the image from a place on.
 pub(crate) fn put(image: &mut [u8], place: usize, bytes: &[u8]) -> Result<(), CaseFault> {
     match image.get_mut(place..place.saturating_add(bytes.len())) {
         Some(range) => {
@@ -181,13 +181,13 @@ pub(crate) fn put(image: &mut [u8], place: usize, bytes: &[u8]) -> Result<(), Ca
     }
 }
 
-/// The disk of a case, which may fail for good or once.
+/// The disk of a case, which can fail permanently or once.
 pub type Device = CountingDisk<OnceDisk<FailingDisk<MemoryDisk>>>;
 
-/// So many calls are never made.
+/// More calls than are ever made.
 const NEVER: u64 = u64::MAX;
 
-/// Hands each call on to the disk inside, and counts the calls of each kind.
+/// Passes each call on to the inner disk and counts the calls of each kind.
 #[derive(Drop)]
 pub struct CountingDisk<D: Disk + Drop> {
     pub inner: D,
@@ -196,7 +196,7 @@ pub struct CountingDisk<D: Disk + Drop> {
     pub syncs: u64,
 }
 
-/// A disk that fails for good after so many calls, or once. Nothing is counted yet.
+/// A disk that fails permanently after `for_good` calls, or once after `once` calls. No call is counted yet.
 fn device(disk: MemoryDisk, for_good: u64, once: u64) -> Device {
     CountingDisk {
         inner: OnceDisk::new(FailingDisk::new(disk, for_good), once),
@@ -216,7 +216,7 @@ pub(crate) fn failing(disk: MemoryDisk, calls: u64) -> Device {
     device(disk, calls, NEVER)
 }
 
-/// A disk that fails in the call after so many, and then works again.
+/// A disk that fails once, in the call after this many, and then works again.
 pub(crate) fn failing_once(disk: MemoryDisk, calls: u64) -> Device {
     device(disk, NEVER, calls)
 }

@@ -5,13 +5,13 @@ use crate::words::read_bytes;
 use std::io::ErrorKind;
 use std::{env, fs};
 
-/// A name, and what stands after it.
+/// A name and the text after it.
 fn named<'t>(text: &'t str, end: char) -> Result<(&'t str, &'t str), CaseFault> {
     text.split_once(end)
         .ok_or(CaseFault::Text("a name and more are needed"))
 }
 
-/// Whether two files hold the same bytes.
+/// `ok` if two files have the same bytes, otherwise `differs`.
 fn compare(rt: &HostRuntime, one: &str, other: &str) -> Result<&'static str, CaseFault> {
     if fs::read(rt, one)? == fs::read(rt, other)? {
         Ok("ok")
@@ -33,14 +33,14 @@ fn append(rt: &HostRuntime, name: &str, bytes: &[u8]) -> Result<&'static str, Ca
     save(rt, name, &all)
 }
 
-/// One side of a change: `\n` stands for LF there, and `\r` for CR.
+/// One side of a change, in which `\n` means LF and `\r` means CR.
 fn side(rt: &HostRuntime, text: &str) -> Result<String, CaseFault> {
     let text = text.trim().replace(rt.alloc(), "\\n", "\n")?;
     let text = text.as_str().replace(rt.alloc(), "\\r", "\r")?;
     Ok(text)
 }
 
-/// Writes a file with another's text, where `OLD => NEW` puts the new in the place of the old.
+/// Writes a file with the text of another, after the change `OLD => NEW`.
 fn replace(
     rt: &HostRuntime,
     from: &str,
@@ -96,7 +96,7 @@ pub fn act_on_files(rt: &HostRuntime, word: &str, rest: &str) -> Result<&'static
     }
 }
 
-/// The files of the folder that end in `.case`, in the order of their names.
+/// The files in the folder that end in `.case`, sorted by name.
 fn cases_of_folder(rt: &HostRuntime) -> Result<Vec<String>, CaseFault> {
     let mut names = Vec::new(rt.alloc());
     for entry in fs::read_dir(rt, ".")? {
@@ -109,7 +109,7 @@ fn cases_of_folder(rt: &HostRuntime) -> Result<Vec<String>, CaseFault> {
     Ok(names)
 }
 
-/// The files that the arguments name, or else all cases of the folder.
+/// The files that the arguments name, or else all cases in the folder.
 pub fn names_of_files(rt: &HostRuntime) -> Result<Vec<String>, CaseFault> {
     let names: Vec<String> = env::args(rt)?.skip(1).collect(rt.alloc())?;
     if names.is_empty() {

@@ -1,4 +1,4 @@
-//! The lines of a text, with its blocks and repetitions written out.
+//! The lines of a text, with its blocks and repetitions expanded.
 
 use crate::progress::CaseFault;
 use crate::sweep::sweep;
@@ -6,14 +6,14 @@ use crate::texts::spelled;
 use crate::words::number_of;
 use std::alloc::{AllocError, Global};
 
-/// A line without its comment, and its number in the file.
+/// A line without its comment, and its line number in the file.
 #[derive(Drop)]
 pub struct NumberedLine {
     pub number: usize,
     pub text: String,
 }
 
-/// What stands before the comment. A line in quotes has none.
+/// The text before the comment. A line in quotes has no comment.
 fn without_comment(line: &str) -> &str {
     let line = line.trim();
     if line.starts_with('"') {
@@ -25,7 +25,7 @@ fn without_comment(line: &str) -> &str {
     }
 }
 
-/// Appends the text of a file as one line: `file NAME`, and below it what the file is to hold.
+/// Appends the text of a file as one line: `file NAME`, then the contents of the file.
 fn file(
     alloc: Global,
     lines: &mut Vec<NumberedLine>,
@@ -45,7 +45,7 @@ fn file(
     Ok(())
 }
 
-/// Appends what a block stands for. Its first line says which kind it is.
+/// Appends the expansion of a block. Its first line says which kind it is.
 fn write_out(
     alloc: Global,
     lines: &mut Vec<NumberedLine>,
@@ -65,7 +65,7 @@ fn write_out(
     }
 }
 
-/// Lines, and where the blocks begin that have not ended.
+/// The lines so far, and where the blocks begin that have not ended.
 #[derive(Drop)]
 struct Open {
     lines: Vec<NumberedLine>,
@@ -93,7 +93,7 @@ impl Open {
     }
 }
 
-/// The lines of a text, with its blocks written out. `number` is that of the line that was read last.
+/// The lines of a text, with its blocks expanded. `number` is the number of the line that was read last.
 pub fn lines_of(
     alloc: Global,
     text: &str,
@@ -116,7 +116,7 @@ pub fn lines_of(
 
 const NO_VALUES: CaseFault = CaseFault::Text("a repetition has a name and values");
 
-/// The numbers of `1 to 60`, or of `1 to 59 by 2`.
+/// The numbers of a range, for example `1 to 60` or `1 to 59 by 2`.
 fn numbers_of(alloc: Global, from: &str, to: &str) -> Result<Vec<String>, CaseFault> {
     let (to, by) = to.split_once(" by ").unwrap_or((to, "1"));
     let (Some(from), Some(to), Some(by)) = (number_of(from), number_of(to), number_of(by)) else {
@@ -131,7 +131,7 @@ fn numbers_of(alloc: Global, from: &str, to: &str) -> Result<Vec<String>, CaseFa
     Ok(numbers)
 }
 
-/// The values of such a list, or of one with commas, as `keep, old, a5`.
+/// The values of a range, or of a list with commas, for example `keep, old, a5`.
 fn values_of(alloc: Global, list: &str) -> Result<Vec<String>, CaseFault> {
     if let Some((from, to)) = list.split_once(" to ") {
         return numbers_of(alloc, from.trim(), to.trim());
@@ -143,7 +143,7 @@ fn values_of(alloc: Global, list: &str) -> Result<Vec<String>, CaseFault> {
     Ok(values)
 }
 
-/// The number with a change, which is `+5` or `-5`.
+/// The number after a change such as `+5` or `-5`.
 fn changed(number: u64, change: &str) -> Option<u64> {
     match change.strip_prefix('-') {
         Some(less) => number.checked_sub(number_of(less)?),
@@ -151,7 +151,7 @@ fn changed(number: u64, change: &str) -> Option<u64> {
     }
 }
 
-/// What stands for `NAME`, `NAME+5` or `NAME-5`.
+/// The text that replaces `NAME`, `NAME+5` or `NAME-5`.
 fn value_of(
     alloc: Global,
     inside: &str,
@@ -173,7 +173,7 @@ fn value_of(
     }
 }
 
-/// A text with the value in place of the name, wherever that stands in braces.
+/// A text with the name replaced by the value wherever it is in braces.
 pub(crate) fn with_value(
     alloc: Global,
     text: &str,
@@ -199,7 +199,7 @@ pub(crate) fn with_value(
     Ok(out)
 }
 
-/// Appends the lines of a repetition, once for each value of `NAME = VALUES`.
+/// Appends the lines of a repetition once for each value in `NAME = VALUES`.
 pub(crate) fn repeat(
     alloc: Global,
     lines: &mut Vec<NumberedLine>,

@@ -1,4 +1,4 @@
-//! How far the cases of a file went.
+//! Progress through the cases of a file, and the faults that end it.
 
 use std::alloc::AllocError;
 use std::io;
@@ -11,23 +11,23 @@ pub fn print_line(rt: &HostRuntime, line: &str) -> Result<(), CaseFault> {
     Ok(())
 }
 
-/// Prints why no file was read further.
+/// Prints why reading the files ended.
 pub fn print_fault(rt: &HostRuntime, fault: &CaseFault) -> Result<(), CaseFault> {
     eprintln!(rt; "zh_cases: {fault}")?;
     Ok(())
 }
 
-/// How far the cases of a file, or of several, went.
+/// Progress through the cases of one or more files.
 #[derive(Clone, Copy, Default)]
 pub struct Progress {
-    /// The number of the line at work.
+    /// The number of the current line.
     pub line: usize,
     cases: u64,
     turns: u64,
 }
 
 impl Progress {
-    /// Counts a turn, which has this text.
+    /// Counts a turn with this text.
     pub fn count(&mut self, text: &str) {
         self.turns = self.turns.saturating_add(1);
         if text.starts_with("case ") {
@@ -35,19 +35,19 @@ impl Progress {
         }
     }
 
-    /// Counts those of a file.
+    /// Adds the counts of a file.
     pub fn add(&mut self, done: Progress) {
         self.cases = self.cases.saturating_add(done.cases);
         self.turns = self.turns.saturating_add(done.turns);
     }
 
-    /// Prints the cases and the turns of the file of this name.
+    /// Prints the number of cases and turns in the file with this name.
     pub fn print(&self, rt: &HostRuntime, name: &str) -> Result<(), CaseFault> {
         println!(rt; "{name}: {} cases, {} turns", self.cases, self.turns)?;
         Ok(())
     }
 
-    /// Prints at which line of the file of this name it went wrong, and why.
+    /// Prints the line of the file with this name at which it went wrong, and why.
     pub fn print_fault(
         &self,
         rt: &HostRuntime,
@@ -70,7 +70,7 @@ pub enum CaseFault {
     /// What is wrong with the text of a case, a set-up or a question, or why a turn cannot be made.
     #[error("{0}")]
     Text(&'static str),
-    /// Another answer was found than was expected.
+    /// An answer was not as expected.
     #[error("{0}")]
     Wrong(String),
 }

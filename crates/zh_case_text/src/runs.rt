@@ -1,4 +1,4 @@
-//! What a run of the program is given, and its answer.
+//! The input and the limits of a run of the program, and its answer.
 
 use crate::progress::CaseFault;
 use crate::texts::{push_lines, spelled};
@@ -6,7 +6,7 @@ use crate::words::read_number;
 use std::alloc::Global;
 use std::fs;
 
-/// What stands in a file, nothing where none is named.
+/// The contents of a file, or nothing if no file is named.
 pub fn input_in(rt: &HostRuntime, name: &str) -> Result<Vec<u8>, CaseFault> {
     if name.is_empty() {
         return Ok(Vec::new(rt.alloc()));
@@ -23,7 +23,7 @@ pub fn arguments_in(alloc: Global, text: &str) -> Result<Vec<String>, CaseFault>
     Ok(arguments)
 }
 
-/// The answer of a run: its status, the lines of its output, each after a separator, and those of its standard error.
+/// The answer of a run: its status, the lines of its output, each after a separator, and the lines of its standard error.
 pub fn answer_of(
     alloc: Global,
     status: u8,
@@ -37,8 +37,8 @@ pub fn answer_of(
     Ok(answer)
 }
 
-/// How much passes before all fails: calls at paths, reads of each text, calls of the disk's file, and bytes of the input and
-/// the output.
+/// How much succeeds before everything fails: calls at paths, reads of each text, calls of the disk's file, and bytes of
+/// the input and the output.
 #[derive(Clone, Copy)]
 pub struct Passes {
     pub files: u64,
@@ -48,7 +48,8 @@ pub struct Passes {
     pub output: u64,
 }
 
-/// What passes, as in `calls 3 zhcount ..`, and what stands after `zhcount`. Without a limit all passes.
+/// The limits, for example `calls 3` in `calls 3 zhcount ..`, and the text after `zhcount`. Without a limit everything
+/// succeeds.
 pub fn read_passes(text: &str) -> Result<(Passes, &str), CaseFault> {
     let Some((limit, given)) = text.split_once("zhcount") else {
         return Err(CaseFault::Text("a run within a limit needs zhcount"));
@@ -77,7 +78,7 @@ pub fn read_passes(text: &str) -> Result<(Passes, &str), CaseFault> {
     Ok((passes, given))
 }
 
-/// The argument after the one of this name, or nothing.
+/// The argument after the one with this name, or the empty text.
 pub fn path_after<'t>(arguments: &'t [String], name: &str) -> &'t str {
     let mut is_next = false;
     for argument in arguments {

@@ -1,4 +1,4 @@
-//! The set-ups of a file's cases.
+//! The set-ups for the cases of a file.
 
 use crate::lines::{NumberedLine, lines_of};
 use crate::progress::CaseFault;
@@ -6,14 +6,14 @@ use std::fs;
 use zh_districts::Setup;
 use zh_setups::{read_setup, rehearsal};
 
-/// A set-up, and the name by which a file asks for it.
+/// A set-up and the name by which a file asks for it.
 #[derive(Drop)]
 pub struct NamedSetup {
     pub name: String,
     pub setup: Setup,
 }
 
-/// The set-up whose text, its repetitions written out, stands in the file of this name; or that of the rehearsal.
+/// The set-up in the file with this name, with its repetitions expanded, or the set-up of the rehearsal.
 fn setup_of(rt: &HostRuntime, name: &str) -> Result<Setup, CaseFault> {
     let alloc = rt.alloc();
     if name == "rehearsal" {
@@ -31,7 +31,7 @@ fn setup_of(rt: &HostRuntime, name: &str) -> Result<Setup, CaseFault> {
     }
 }
 
-/// The set-ups that these lines ask for. `number` is that of the line that was looked at last.
+/// The set-ups that these lines ask for. `number` is the number of the line that was read last.
 pub fn setups_of(
     rt: &HostRuntime,
     lines: &[NumberedLine],

@@ -1,8 +1,8 @@
-//! An input that gives one byte of each read, and an output that takes so many of each write. Both may fail.
+//! An input that gives one byte per read, and an output that takes a limited number of bytes per write. Both can fail.
 
 use std::io::{self, ErrorKind, Read, Write};
 
-/// Gives the bytes of a text one by one, as long as bytes are left to give, and then fails.
+/// Gives the bytes of a text one by one, and fails after `left` bytes.
 #[derive(Drop)]
 pub struct SlowInput<'a> {
     pub text: &'a [u8],
@@ -27,12 +27,12 @@ impl Read for SlowInput<'_> {
     }
 }
 
-/// Takes bytes of each write, as long as writes are left to take, and then fails.
+/// Takes bytes from each write, and fails after `left` writes.
 #[derive(Drop)]
 pub struct SlowOutput {
     pub bytes: Vec<u8>,
     pub left: u64,
-    /// The most bytes that a write takes.
+    /// The most bytes that one write takes.
     pub takes: usize,
 }
 

@@ -1,4 +1,4 @@
-//! Sweeps: turns that are made once for each place of a table, which says what they are answered there.
+//! Sweeps: turns that are made once for each place in a table, which also gives the expected answers.
 
 use crate::lines::{NumberedLine, with_value};
 use crate::progress::CaseFault;
@@ -6,14 +6,14 @@ use crate::texts::{joined, spelled};
 use crate::words::read_number;
 use std::alloc::Global;
 
-/// A place of the table: how many calls pass before the disk fails, and what the stop leaves.
+/// A place in the table: how many calls succeed before the disk fails, and what the stop leaves.
 #[derive(Clone, Copy)]
 struct Place<'t> {
     calls: &'t str,
     stop: &'t str,
 }
 
-/// The answers to which the lines `answers NAME: ANSWER; ..` give this name.
+/// The answers with this name in the lines `answers NAME: ANSWER; ..`.
 fn answers_of<'t>(
     alloc: Global,
     turns: &'t [NumberedLine],
@@ -33,7 +33,7 @@ fn answers_of<'t>(
     Ok(answers)
 }
 
-/// A turn at a place of the table. A `?` at its end stands for the first of the answers that are left.
+/// A turn at a place in the table. A `?` at the end of the turn stands for the next of the remaining answers.
 fn turn_at(
     alloc: Global,
     turn: &str,
@@ -52,7 +52,7 @@ fn turn_at(
     Ok(joined(alloc, &[front, answer])?)
 }
 
-/// Appends the turns at a place of the table, where the answers are those of a name.
+/// Appends the turns at a place in the table, with the answers of this name.
 fn push_turns(
     alloc: Global,
     lines: &mut Vec<NumberedLine>,
@@ -78,7 +78,7 @@ fn push_turns(
     }
 }
 
-/// Appends the turns of one row at one number of calls, each time on the disk of the beginning.
+/// Appends the turns of one row for one number of calls. Each place starts from the disk at the beginning of the sweep.
 fn push_row(
     alloc: Global,
     lines: &mut Vec<NumberedLine>,
@@ -103,7 +103,7 @@ fn push_row(
     Ok(())
 }
 
-/// Appends the turns of a sweep, for each place of its table.
+/// Appends the turns of a sweep for each place in its table.
 pub(crate) fn sweep(
     alloc: Global,
     lines: &mut Vec<NumberedLine>,
@@ -136,7 +136,7 @@ pub(crate) fn sweep(
     Ok(())
 }
 
-/// The first and the last number of calls that a row stands for.
+/// The first and the last number of calls in a row.
 fn numbers_in(stops: &str, row: &NumberedLine) -> Result<(u64, u64), CaseFault> {
     let text = row.text.as_str();
     if text.split_whitespace().count() != stops.split_whitespace().count() {

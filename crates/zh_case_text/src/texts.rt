@@ -1,10 +1,10 @@
-//! Lines that are put together to an answer.
+//! Putting the lines of an answer together.
 
 use crate::progress::CaseFault;
 use itoa::Buffer;
 use std::alloc::{AllocError, Global};
 
-/// These texts, one after the other.
+/// These texts, one after another.
 pub fn joined(alloc: Global, parts: &[&str]) -> Result<String, AllocError> {
     let mut text = String::new(alloc);
     for part in parts {
@@ -18,13 +18,13 @@ pub fn spelled(alloc: Global, number: u64) -> Result<String, AllocError> {
     String::from_str(alloc, Buffer::new().format(number))
 }
 
-/// Appends a blank and a number.
+/// Appends a space and a number.
 pub fn push_number(text: &mut String, number: u64) -> Result<(), AllocError> {
     text.push(' ')?;
     text.push_str(Buffer::new().format(number))
 }
 
-/// A text with numbers, each after a blank.
+/// A text with numbers, each after a space.
 pub fn with_numbers(alloc: Global, text: &str, numbers: &[u64]) -> Result<String, AllocError> {
     let mut text = String::from_str(alloc, text)?;
     for number in numbers {

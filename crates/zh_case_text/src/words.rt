@@ -1,11 +1,11 @@
-//! Numbers and bytes, stops, and places on a disk, as a case writes them.
+//! Numbers, bytes, stops and places on a disk, as cases write them.
 
 use crate::progress::CaseFault;
 use hex::decode;
 use std::alloc::Global;
 use zh_disk::Stop;
 
-/// The first of the set-up bytes.
+/// The first of the set-up's bytes.
 const SETUP: usize = 4_096;
 
 /// The gate of the first slot.
@@ -14,18 +14,18 @@ const SLOT_1: usize = 69_632;
 /// The gate of the second slot.
 const SLOT_2: usize = 594_176;
 
-/// The generation, counted from its slot's gate, as the next two are.
+/// The offset of the generation from its slot's gate. The next two offsets are also from there.
 const GENERATION: usize = 1;
 
-/// The payload of the snapshot.
+/// The offset of the snapshot's payload.
 const PAYLOAD: usize = 9;
 
-/// The journal.
+/// The offset of the journal.
 const JOURNAL: usize = 262_400;
 
 const NO_BYTES: CaseFault = CaseFault::Text("these are no bytes");
 
-/// The decimal number that a word is, none where it is none.
+/// The decimal number of a word, or `None` if it is not one.
 pub fn number_of(word: &str) -> Option<u64> {
     word.parse::<u64>().ok()
 }
@@ -35,7 +35,7 @@ pub fn read_number(word: &str) -> Result<u64, CaseFault> {
     number_of(word).ok_or(CaseFault::Text("this is no number"))
 }
 
-/// The bytes of words such as `a5`, `0001` and `78*114`: hexadecimal digits, repeated where a number follows.
+/// The bytes of words such as `a5`, `0001` and `78*114`: hexadecimal digits, and after `*` how often they are repeated.
 pub fn read_bytes(alloc: Global, text: &str) -> Result<Vec<u8>, CaseFault> {
     let mut bytes = Vec::new(alloc);
     for word in text.split_whitespace() {
@@ -62,7 +62,7 @@ pub fn read_stop(word: &str) -> Result<Stop, CaseFault> {
     }
 }
 
-/// Where the part of a disk with this name begins.
+/// The start of the part of a disk with this name.
 fn start_of(name: &str) -> Option<usize> {
     match name {
         "head" => Some(0),
@@ -79,7 +79,7 @@ fn start_of(name: &str) -> Option<usize> {
     }
 }
 
-/// The place of a number, of a name, or of `NAME+N`.
+/// The place given by a number, a name or `NAME+N`.
 fn place_of(word: &str) -> Result<usize, CaseFault> {
     if word.starts_with(|c: char| c.is_ascii_digit()) {
         return Ok(read_number(word)? as usize);
@@ -91,7 +91,7 @@ fn place_of(word: &str) -> Result<usize, CaseFault> {
     }
 }
 
-/// A place on the disk, and bytes.
+/// A place on the disk, and the bytes that a case gives for it.
 pub fn read_place(alloc: Global, text: &str) -> Result<(usize, Vec<u8>), CaseFault> {
     let Some((place, bytes)) = text.split_once(' ') else {
         return Err(CaseFault::Text("a place and bytes are needed"));

@@ -1,4 +1,4 @@
-//! Runs the cases of the count office that stand in files, and says where an answer is not the one that the file has.
+//! Runs the cases in files, and names the first line of a file whose answer is not the expected one.
 #![tactic(auto)]
 
 mod program;

@@ -1,4 +1,4 @@
-//! Runs of the program, on the files of the folder or in memory.
+//! Runs of the program on the files of the folder or in memory.
 ghost use Rattle.std.specs.Prelude.{[], false};
 
 use std::alloc::Global;
@@ -10,7 +10,7 @@ use zh_case_text::{
 use zh_file::{Ended, FolderFiles, HostFolder, MemoryFolder, Remark, Start, Stood, World};
 use zh_program::{Filmed, Used, program};
 
-/// Stands for what a file of the folder holds when it is opened.
+/// Represents whatever a file in the folder contains when it is opened.
 #[derive(Drop)]
 struct AnyContent;
 
@@ -26,7 +26,7 @@ impl Start for AnyContent {
     }
 }
 
-/// Runs the program on these arguments and this input, with a disk that holds what `S` says.
+/// Runs the program with these arguments and this input. `S` represents the contents of its disk file.
 fn run_on_files<S: Start>(
     rt: &HostRuntime,
     start: S,
@@ -45,8 +45,8 @@ fn run_on_files<S: Start>(
     answer_of(alloc, status, "; ", &world.output, &world.faults)
 }
 
-/// Runs the program on `ARGUMENTS < INPUT`, where INPUT is a file. The answer is its status, the lines of its output
-/// and those of its standard error.
+/// Runs the program on `ARGUMENTS < INPUT`, where INPUT is a file. The answer is its status, the lines of its output, and
+/// the lines of its standard error.
 pub(crate) fn run_program(rt: &HostRuntime, text: &str) -> Result<String, CaseFault> {
     let (given, name) = text.split_once('<').unwrap_or((text, ""));
     let input = input_in(rt, name.trim())?;
@@ -54,14 +54,14 @@ pub(crate) fn run_program(rt: &HostRuntime, text: &str) -> Result<String, CaseFa
     run_on_files(rt, AnyContent, &arguments, &input)
 }
 
-/// The path of the disk of the case. There is no other disk.
+/// The path of the case's disk. There is no other disk.
 const DISK: &str = "disk";
 
 /// The right to that disk.
 #[derive(Drop)]
 struct OneDisk;
 
-/// The texts of the folder that the arguments name, and the disk of the case, in memory.
+/// A folder in memory with the files that the arguments name and the case's disk.
 fn folder_of(
     rt: &HostRuntime,
     arguments: &[String],
@@ -78,7 +78,7 @@ fn folder_of(
     Ok(folder)
 }
 
-/// Runs the program on this folder, and takes its disk over. The answer is that of a run.
+/// Runs the program on this folder and takes over its disk. The answer is that of a run.
 fn run_on(
     alloc: Global,
     fixture: &mut Fixture<'_>,
@@ -113,8 +113,8 @@ fn run_on(
     answer_of(alloc, result, ", ", &world.output.bytes, &world.faults)
 }
 
-/// Runs the program within a limit on `LIMIT zhcount ARGUMENTS < INPUT`. The texts that its arguments name are those of
-/// the folder, and its disk is that of the case, at the path `disk`; the disk that it hands over becomes that of the case.
+/// Runs the program within a limit, `LIMIT zhcount ARGUMENTS < INPUT`. The files that its arguments name are read from the
+/// folder. Its disk, at the path `disk`, is the case's disk; the disk that it hands over replaces it.
 pub(crate) fn run_within(
     rt: &HostRuntime,
     fixture: &mut Fixture<'_>,

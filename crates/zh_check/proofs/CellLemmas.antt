@@ -1,4 +1,4 @@
--- Quotients that round, and cells of a table of lists.
+-- Quotients that round, and the lists by place.
 use Rattle.std.proofs.Common.{◌≡◌, ℕ, zero, suc, ◌+◌, ◌-◌, ◌*◌, ◌/◌, ◌%◌, ◌<◌, ◌≤◌, Bool, true, false, List, length, get_or, sym, ap, ◌∙◌, inl, inr, arith}
 use Rattle.std.specs.Prelude.{◌↔◌}
 use Rattle.std.proofs.lemmas.Bool.{cases_lt}
@@ -13,7 +13,7 @@ use Rattle.zh_check.specs.declared.lists.ShownList.{ShownList}
 use Rattle.zh_check.proofs.SizeLemmas.{length-standing, length-votes}
 use Rattle.zh_check.proofs.TableLemmas.{in_square}
 
--- a number times 2 s - 1, where s is positive
+-- a number times 2 s - 1, for a positive s
 below_twice : (s p n : ℕ) → (1 ≤ s → 2 * (s * p) < 2 * n + p) → 1 ≤ s → (2 * s - 1) * p < 2 * n
 below_twice zero p n lt some = absurd (omega (arith, some))
 below_twice (suc s) p n lt some =
@@ -21,7 +21,7 @@ below_twice (suc s) p n lt some =
     let less : 2 * (suc s * p) < 2 * n + p = lt some in
     rw odd (omega (arith, less))
 
--- a quotient rounds to what it is nearest to
+-- a quotient rounds to the nearest number
 pub rounds_down : (n p w r : ℕ) → n ≡ w * p + r → 2 * r < p → Rounds n p w
 rounds_down n p w r is lt = record {
   below_upper = omega (arith, is, lt);
@@ -37,7 +37,7 @@ rounds_up n p w r is small lt = record {
 pub on_half : (n p w r : ℕ) → n ≡ w * p + r → 2 * r ≡ p → 0 < p → LiesOnHalf n p
 on_half n p w r is same positive = record { positive = positive; whole = w; half = omega (arith, is, same) }
 
--- to one number only, and to none on a half
+-- a quotient rounds to only one number, and to none if it is on a half
 between : (a b p : ℕ) → 2 * (a * p) < (2 * b + 1) * p + p → a ≤ b
 between a b p lt = elim (cases_lt b a) [
   | inr le ↦ le
@@ -77,7 +77,7 @@ divisor_not n p s none S =
 no_product : (list : ShownList) → list.column_divisor ≡ 0 → list.row_divisor * list.column_divisor ≡ 0
 no_product list none = ap (λ c. list.row_divisor * c) none ∙ omega arith
 
--- so the seats follow exactly if they are that number
+-- the seats follow if and only if they are that number
 pub follow_to : (list : ShownList) (s : ℕ) → Rounds (list.votes * (1000000 * 1000000)) (list.row_divisor * list.column_divisor) s → (s ≡ list.seats) ↔ DoSeatsFollow list
 follow_to list s is =
     let n : ℕ = list.votes * (1000000 * 1000000) in
@@ -116,7 +116,7 @@ next_line_hidden canton k lt away =
     let same = count_by_more_no (λ (s : Bool). s) (standing canton) k false (omega (arith, lt, length-standing canton)) away in
     omega (arith, same)
 
--- places are there, and few
+-- the place of some votes is that of a list, and there are few places
 pub place_there : (canton : Canton) (text votes : List ℕ) (k : ℕ) → votes ≡ votes_read canton text → k < length votes →
     k < length canton.constituencies * length canton.groups
 place_there canton text votes k read lt = omega (arith, lt, ap length read, length-votes canton text)
@@ -124,7 +124,7 @@ place_there canton text votes k read lt = omega (arith, lt, ap length read, leng
 pub few_places : (m n k : ℕ) → m ≤ 69 → n ≤ 69 → k < m * n → k < 4761
 few_places m n k few_rows few_columns lt = let most : m * n ≤ 69 * 69 = mul-le m n 69 69 few_rows few_columns in omega (arith, lt, most)
 
--- whether the list there stands, by a number of groups
+-- whether the list at a place stands, given the number of groups
 pub stands_here : (canton : Canton) (k groups : ℕ) (b : Bool) → groups ≡ length canton.groups → k < length canton.constituencies * length canton.groups →
     b ≡ stands canton (k / groups + 1) (k % groups + 1) → get_or (standing canton) k false ≡ b
 stands_here canton k groups b same lt is =

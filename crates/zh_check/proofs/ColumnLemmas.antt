@@ -1,4 +1,4 @@
--- The columns of the groups with seats, in the order of the groups, and their divisors.
+-- The columns of groups with seats, in the order of the groups, and their divisors.
 use Rattle.std.proofs.Common.{◌≡◌, ℕ, zero, suc, ◌+◌, ◌-◌, ◌*◌, ◌<◌, ◌≤◌, Bool, true, false, cond, Option, Some, None, refl, sym, ap, ◌∙◌, inl, inr, arith}
 use Rattle.std.proofs.Common.{List, [], ◌∷◌, ◌++◌, length, get_or, map, filter, take, drop, length-append, take-append-drop, slice_index}
 use Rattle.std.specs.Prelude.{nat_lt, position, ◌==◌}
@@ -20,14 +20,14 @@ use Rattle.zh_sheet.specs.Readings.{column_of, list_seats}
 use Rattle.zh_sheet.proofs.CallerLemmas.{seated_are}
 use Rattle.zh_check.specs.Reading.{column_divisors}
 
--- the divisors of the groups as a sheet shows them, 0 for one without
+-- the divisor of a group on a sheet, 0 if it has none
 abbrev pub divisor_or_0 : Distribution → ℕ → ℕ
 divisor_or_0 x g = option_map_or (λ k. slice_index x.lower.divisors.of_columns k) (column_of x g) 0
 
 abbrev pub group_divisors : Distribution → ℕ → List ℕ
 group_divisors x n = map (divisor_or_0 x) (range_with_len 1 n)
 
--- the column of a group with seats is its place among them
+-- the column of a group with seats is its place among these groups
 column_at : (upper : List ℕ) (k : ℕ) → k < length (seated_groups upper) →
     position (λ s. s == get_or (seated_groups upper) k 0) (seated_groups upper) ≡ Some k
 column_at upper k lt =
@@ -44,7 +44,7 @@ column_at upper k lt =
     let within : nat_lt k (length seated) ≡ true = lt-ltb k (length seated) lt in
     rw (at, within) refl
 
--- an element that passes a test stands among those that do
+-- an element that passes a test is among the elements that do
 kept_at : (test : ℕ → Bool) (xs : List ℕ) (i : ℕ) → i < length xs → test (get_or xs i 0) ≡ true →
     (k : ℕ) × (k < length (filter test xs)) × (get_or (filter test xs) k 0 ≡ get_or xs i 0)
 kept_at test xs i lt passes =
@@ -57,7 +57,7 @@ kept_at test xs i lt passes =
     ∙ (ap (λ ys. front ++ filter test ys) (drop_more xs i 0 lt) ∙ ap (λ b. front ++ cond b (x ∷ rest) rest) passes)) in
     (length front, omega (arith, ap length parts, length-append front (x ∷ rest)), ap (λ ys. get_or ys (length front) 0) parts ∙ get_or-append_seam front x rest 0)
 
--- tests of numbers that agree
+-- filters by tests that agree on the numbers
 filter_same : (p q : ℕ → Bool) (a n : ℕ) → ((g : ℕ) → a ≤ g → g < a + n → p g ≡ q g) → filter p (range_with_len a n) ≡ filter q (range_with_len a n)
 filter_same p q a zero same = refl
 filter_same p q a (suc n) same =
@@ -73,7 +73,7 @@ filter_of_map p f (x ∷ xs) =
     ]
 
 module _ (x : Distribution) (is : IsDistribution x) where
-  -- as many groups as upper seats
+  -- there are as many groups as upper seats
   pub group_count : length x.upper.seats ≡ length x.totals.canton.groups
   group_count = is.upper.one_each ∙ is.voters.one_each
 
@@ -91,7 +91,7 @@ module _ (x : Distribution) (is : IsDistribution x) where
   divisor_at : (k : ℕ) → k < length (seated_groups x.upper.seats) → divisor_or_0 x (get_or (seated_groups x.upper.seats) k 0) ≡ get_or x.lower.divisors.of_columns k 0
   divisor_at k lt = ap (λ found. option_map_or (λ k. get_or x.lower.divisors.of_columns k 0) found 0) (column_at x.upper.seats k lt)
 
-  -- a group has a divisor exactly where it has seats
+  -- a group has a divisor if and only if it has seats
   some_divisor : (p : ℕ) → p < length x.upper.seats → 0 < get_or x.upper.seats p 0 → 0 < divisor_or_0 x (p + 1)
   some_divisor p lt some =
       let numbers : List ℕ = range_with_len 1 (length x.upper.seats) in

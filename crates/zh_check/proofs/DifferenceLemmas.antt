@@ -3,14 +3,14 @@ use Rattle.std.proofs.Common.{◌≡◌, ◌≢◌, ℕ, zero, suc, ◌+◌, ◌
 use Rattle.std.specs.List.{position_or_len}
 use Rattle.zh_check.specs.Lines.{after_line, after_lines, ends_line, whole_line}
 
--- one line more
+-- one more line
 pub lines_more : (n : ℕ) (text : List ℕ) → after_lines (n + 1) text ≡ after_line (after_lines n text)
 lines_more zero text = refl
 lines_more (suc n) text =
     let next : suc n + 1 ≡ suc (n + 1) = omega arith in
     ap (λ m. after_lines m text) next ∙ lines_more n (after_line text)
 
--- a line takes bytes
+-- skipping a line makes a text shorter, if it is not empty
 pub shorter : (text : List ℕ) → text ≢ [] → length (after_line text) < length text
 unfolding after_line
 shorter [] some = absurd (some refl)
@@ -28,7 +28,7 @@ nothing_whole (b ∷ text) e =
     let some : take (suc (position_or_len ends_line (b ∷ text))) (b ∷ text) ≡ [] = ap (λ n. take n (b ∷ text)) (sym next) ∙ e in
     absurd (cc)
 
--- texts are the same where their lines are, and both end there
+-- texts are the same if their lines are, and both end there
 pub same_texts : (n : ℕ) (text expected : List ℕ) → ((k : ℕ) → k < n → whole_line (after_lines k text) ≡ whole_line (after_lines k expected)) →
     after_lines n text ≡ [] → whole_line (after_lines n text) ≡ whole_line (after_lines n expected) → text ≡ expected
 same_texts zero text expected same end last = end ∙ sym (nothing_whole expected (sym last ∙ ap whole_line end))

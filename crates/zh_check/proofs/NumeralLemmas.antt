@@ -1,4 +1,4 @@
--- What a sheet writes may stand at its part, and is read as it was.
+-- What a sheet writes is possible at its part, and is read back as it was.
 use Rattle.std.proofs.Common.{◌≡◌, ℕ, ◌-◌, ◌^◌, ◌<◌, ◌≤◌, ◌&&◌, Bool, true, false, cond, List, [], ◌∷◌, ◌++◌, length, min, Some, None, Option, refl, sym, ap, ◌∙◌, arith, decimal}
 use Rattle.std.specs.Prelude.{◌==◌, codes, nat_le, not}
 use Rattle.std.specs.Str.{bytes_eq}
@@ -16,7 +16,7 @@ use Rattle.zh_check.specs.Form.{dots_for, filled, fits, is_digit_or, is_divisor,
 use Rattle.zh_check.specs.Lines.{digits_after, number_of_word}
 use Rattle.zh_check.proofs.WordLemmas.{numeral_is, read-decimal, read-divisor}
 
--- a text of digits, or of such a byte
+-- each byte is a digit or `mark`
 abbrev IsNumeralOf : ℕ → List ℕ → Type 0
 IsNumeralOf mark word = list_all (is_digit_or mark) word ≡ true
 
@@ -50,11 +50,11 @@ appended mark xs ys one other = list_all-append (is_digit_or mark) xs ys ∙ and
 pub decimal_numeral : (mark n : ℕ) → is_made_of_digits mark (decimal n) ≡ true
 decimal_numeral mark n = numeral mark (decimal n) (decimal_some n) (decimal_digits mark n)
 
--- a word that may stand at a part is left there
+-- a word that is possible at a part is kept
 pub word_filled : (part : SheetPart) (word : List ℕ) → fits part word ≡ true → filled part word ≡ word
 word_filled part word fit = ap (λ b. cond b word (dots_for word)) fit
 
--- the number that is read of what is written
+-- the number that is read from what was written
 pub number_read : (word : List ℕ) (n : ℕ) → digits_after 0 word ≡ n → n < 2 ^ 64 → number_of_word word ≡ n
 number_read word n value small = ap (λ v. min v (2 ^ 64 - 1)) value ∙ min-eq_left (omega (arith, small))
 
@@ -64,7 +64,7 @@ decimal_read n small = number_read (decimal n) n (read-decimal n small) small
 same_bytes : (xs ys : List ℕ) → xs ≡ ys → bytes_eq xs ys ≡ true
 same_bytes xs ys same = (bytes_eq-Decides xs ys).1 same
 
--- numbers and divisors fit as they are written
+-- numbers and divisors, as they are written, are possible
 pub number_fits : (n : ℕ) → n < 2 ^ 64 → is_number (decimal n) ≡ true
 number_fits n small = same_bytes (decimal n) (decimal (number_of_word (decimal n))) (ap decimal (sym (decimal_read n small)))
 

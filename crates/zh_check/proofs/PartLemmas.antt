@@ -1,4 +1,4 @@
--- Lines whose parts are words: they are in their form, and each word is read where it stands.
+-- Lines whose parts are words are in their form, and each word is read at its part.
 use Rattle.std.proofs.Common.{◌≡◌, ℕ, ◌≤◌, Bool, true, false, cond, All, List, [], ◌∷◌, ◌++◌, map, filter, flat_map, refl, sym, ap, ◌∙◌, arith, append_assoc}
 use Rattle.std.specs.Prelude.{not}
 use Rattle.std.proofs.lemmas.Bool.{and_parts, not-true}
@@ -13,11 +13,11 @@ use Rattle.zh_check.specs.Lines.{after_if, after_line, after_word, first_line, l
 use Rattle.zh_check.specs.Reading.{words_at, words_in}
 use Rattle.zh_check.proofs.SeamLemmas.{IsPlain, IsWord, line_back, line_front, no_more, word_alone, word_back, word_front, word_plain}
 
--- what is said at a part is a word that may stand there
+-- the text of a part is a word that is possible there
 abbrev pub IsSpelled : Canton → (SheetPart → List ℕ) → SheetPart → Type 0
 IsSpelled canton text part = IsWord (text part) × (part_form canton part (text part) ≡ text part)
 
--- it may stand at the end of a line
+-- the text of a part is possible at the end of a line
 abbrev pub IsLast : Canton → (SheetPart → List ℕ) → SheetPart → Type 0
 IsLast canton text part = IsPlain (text part) × (part_form canton part (leading_word (text part)) ≡ text part)
 
@@ -41,11 +41,11 @@ kept : {A B : Type 0} (f : A → B) (b : Bool) (x : A) (xs : List A) → cond b 
 kept f true x xs = refl
 kept f false x xs = refl
 
--- a line that has all its parts so, where it is there
+-- if the line is written, all its parts are such
 abbrev pub IsShown : Canton → (SheetPart → List ℕ) → SheetLine → Type 0
 IsShown canton text line = line.is_there ≡ true → AreSpelled canton text line.parts
 
--- its words at the parts that pass a test: empty ones where it is not there
+-- the words of a line at the parts that pass a test; empty ones if the line is not written
 abbrev pub found_words : (SheetPart → List ℕ) → (SheetPart → Bool) → SheetLine → List (List ℕ)
 found_words text test line = map (λ part. leading_word (cond line.is_there (text part) [])) (filter test line.parts)
 
@@ -66,7 +66,7 @@ module _ (canton : Canton) (text : SheetPart → List ℕ) where
       All-append (λ b. 32 ≤ b) (text part) (32 ∷ body text (next ∷ parts)) (word_plain (text part) are.0.0)
       (All-cons (λ b. 32 ≤ b) 32 (body text (next ∷ parts)) (omega arith) (plain (next ∷ parts) are.1))
 
-  -- the line comes out as it stands
+  -- the form of the line is the line itself
   formed_line : (parts : List SheetPart) → AreSpelled canton text parts → parts_form canton parts (body text parts) ≡ joined_parts text parts
   formed_line [] are = absurd are
   formed_line (part ∷ []) are = ap (λ t. t ++ 10 ∷ []) are.1
@@ -78,7 +78,7 @@ module _ (canton : Canton) (text : SheetPart → List ℕ) where
       ∙ (ap (λ r. text part ++ 32 ∷ parts_form canton (next ∷ parts) r) (word_back (text part) rest are.0.0)
       ∙ ap (λ t. text part ++ 32 ∷ t) (formed_line (next ∷ parts) are.1)))
 
-  -- and its words are read
+  -- the words of the line are read
   read_line : (test : SheetPart → Bool) (parts : List SheetPart) → AreSpelled canton text parts →
       words_in test parts (body text parts) ≡ map (λ part. leading_word (text part)) (filter test parts)
   read_line test [] are = absurd are
@@ -103,7 +103,7 @@ module _ (canton : Canton) (text : SheetPart → List ℕ) where
   words_read test true parts are = read_line test parts (are refl)
   words_read test false parts are = no_words test parts
 
-  -- a line where it stands
+  -- a line that is written
   whole : (parts : List SheetPart) (more : List ℕ) → AreSpelled canton text parts → joined_parts text parts ++ more ≡ body text parts ++ 10 ∷ more
   whole [] more are = absurd are
   whole (part ∷ parts) more are = ap (λ l. l ++ more) (line_ends text part parts) ∙ append_assoc (body text (part ∷ parts)) (10 ∷ []) more
@@ -123,7 +123,7 @@ module _ (canton : Canton) (text : SheetPart → List ℕ) where
   line_formed true parts more are = ap (parts_form canton parts) (line_read true parts more are) ∙ formed_line parts (are refl)
   line_formed false parts more are = refl
 
-  -- lines, one after the other
+  -- lines, one after another
   pub all_shown : ((part : SheetPart) → IsPartOf canton part → is_name_part part ≡ false → IsSpelled canton text part) →
       ((part : SheetPart) → IsPartOf canton part → IsLast canton text part) → (lines : List SheetLine) → All (IsLineOf canton) lines → All (IsShown canton text) lines
   all_shown words last lines all k d lt there =

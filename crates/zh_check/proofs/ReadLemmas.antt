@@ -1,4 +1,4 @@
--- What is read word by word.
+-- What is read, word by word.
 use Rattle.std.proofs.Common.{◌≡◌, ℕ, ◌+◌, ◌<◌, Bool, cond, List, [], ◌∷◌, ◌++◌, drop, get_or, length, map, refl, sym, ap, ◌∙◌, append_assoc, append-nil, subst}
 use Rattle.std.proofs.lemmas.List.{at_drop_more, map-append}
 use Rattle.zh_sheet_text.specs.Layout.{SheetLine}
@@ -21,7 +21,7 @@ all_then : {A B : Type 0} (f : A → B) (xs ys : List A) (old one new : List B) 
 all_then f xs ys old one new first second =
     second ∙ (ap (λ b. b ++ map f ys) first ∙ (append_assoc old (map f xs) (map f ys) ∙ ap (λ t. old ++ t) (sym (map-append f xs ys))))
 
--- no words add nothing
+-- no words add no values
 pub adds_none : (values : Values) → AddsWords (λ test. []) values values
 adds_none values = record {
   desk = refl;
@@ -33,7 +33,7 @@ adds_none values = record {
   seats = sym (append-nil values.seats.items);
 }
 
--- some words, and then others
+-- some words, then more words
 pub adds_then : (some others all : (SheetPart → Bool) → List (List ℕ)) (old one new : Values) → ((test : SheetPart → Bool) → some test ++ others test ≡ all test) →
     AddsWords some old one → AddsWords others one new → AddsWords all old new
 adds_then some others all old one new are first second =
@@ -53,7 +53,7 @@ adds_then some others all old one new are first second =
     } in
     subst (λ words. AddsWords words old new) same both
 
--- the words that are left, of a line and of a text
+-- the remaining words, of a line and of a text
 pub next_word : (test : SheetPart → Bool) (parts : List SheetPart) (k : ℕ) (d : SheetPart) (rest : List ℕ) → k < length parts →
     cond (test (get_or parts k d)) (leading_word rest ∷ []) [] ++ words_in test (drop (k + 1) parts) (after_word rest) ≡ words_in test (drop k parts) rest
 next_word test parts k d rest lt = sym (at_drop_more (λ ps. words_in test ps rest) parts k d lt)

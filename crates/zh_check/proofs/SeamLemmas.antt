@@ -1,4 +1,4 @@
--- A text that is cut at a byte: its lines, and the words of a line.
+-- A text that is split at a byte: into lines, and a line into words.
 use Rattle.std.proofs.Common.{◌≡◌, ℕ, ◌+◌, ◌<◌, ◌≤◌, All, List, [], ◌∷◌, ◌++◌, length, get_or, take, drop, refl, ap, sym, ◌∙◌, arith, append_assoc, drop_at, length-append}
 use Rattle.std.specs.Prelude.{◌==◌}
 use Rattle.std.specs.List.{after_first, before_first, position_or_len}
@@ -8,7 +8,7 @@ use Rattle.std.proofs.lemmas.List.Sums.{position_or_len_is}
 use Rattle.std.proofs.Math.Seq.{get_or-append_seam, take-append_seam}
 use Rattle.zh_check.specs.Lines.{after_line, after_word, first_line, leading_word}
 
--- the place of a byte that stands nowhere before
+-- the index of a byte that does not occur earlier
 seam_at : (c : ℕ) (xs rest : List ℕ) → All (λ b. c < b) xs → position_or_len (λ b. b == c) (xs ++ c ∷ rest) ≡ length xs
 seam_at c xs rest above =
     position_or_len_is (λ b. b == c) (xs ++ c ∷ rest) (length xs) 0 (omega (arith, length-append xs (c ∷ rest)))
@@ -29,7 +29,7 @@ seam_front c xs rest above = ap (λ n. take n (xs ++ c ∷ rest)) (seam_at c xs 
 seam_back : (c : ℕ) (xs rest : List ℕ) → All (λ b. c < b) xs → after_first (λ b. b == c) (xs ++ c ∷ rest) ≡ rest
 seam_back c xs rest above = ap (λ n. drop (n + 1) (xs ++ c ∷ rest)) (seam_at c xs rest above) ∙ past_seam xs c rest
 
--- no control character, and no space either
+-- no byte is below the space, 32; in a word the space is excluded too
 abbrev pub IsPlain : List ℕ → Type 0
 IsPlain line = All (λ b. 32 ≤ b) line
 
@@ -48,7 +48,7 @@ pub line_back : (body rest : List ℕ) → IsPlain body → after_line (body ++ 
 unfolding after_line
 line_back body rest plain = seam_back 10 body rest (λ k d lt. omega (arith, plain k d lt))
 
--- the first word of a line, which is all of it where no space follows, and nothing of an empty one
+-- the first word of a line: all of it if no space follows, and nothing if the line is empty
 pub word_front : (word rest : List ℕ) → IsWord word → leading_word (word ++ 32 ∷ rest) ≡ word
 unfolding leading_word
 word_front word rest is = seam_front 32 word rest (λ k d lt. omega (arith, is k d lt))

@@ -1,4 +1,4 @@
--- What the lines of a sheet give, kind by kind: its first line, the constituencies, the groups and the lists.
+-- What the lines of a sheet give, kind by kind: the first line, the constituencies, the groups and the lists.
 use Rattle.std.proofs.Common.{◌≡◌, ℕ, List, [], ◌∷◌, ◌++◌, length, map, flat_map, Option, Some, None, refl, ap, ◌∙◌, append-nil}
 use Rattle.std.specs.List.{range_with_len}
 use Rattle.std.proofs.lemmas.List.Concat.{flat_map-append, flat_map_single}
@@ -16,7 +16,7 @@ row_numbers canton = range_with_len 1 (length canton.constituencies)
 abbrev pub group_numbers : Canton → List ℕ
 group_numbers canton = range_with_len 1 (length canton.groups)
 
--- what stands in no line of a kind
+-- lines that give nothing
 nothing : {A : Type 0} (xs : List ℕ) → flat_map {A = A} (λ (k : ℕ). []) xs ≡ []
 nothing [] = refl
 nothing (x ∷ xs) = nothing xs
@@ -29,7 +29,7 @@ no_quorum : {A : Type 0} (F : SheetLine → List A) → F (quorum_line None) ≡
 no_quorum F none some None = none
 no_quorum F none some (Some n) = some n
 
--- one kind after the other
+-- one kind of lines after another
 abbrev pub in_kinds : {A : Type 0} → (SheetLine → List A) → Canton → List A
 in_kinds F canton =
     F head_line ++ (flat_map (λ d. F (constituency_line canton d)) (row_numbers canton) ++ (flat_map (λ g. F (group_line g)) (group_numbers canton)
@@ -42,7 +42,7 @@ kinds F canton house seats upper none some end =
     let quorum : F (quorum_line canton.canton_quorum) ≡ [] = no_quorum F none some canton.canton_quorum in
     simp (house, seats, upper, quorum, end, flat_map-append, of_blocks, flat_map-map, append-nil)
 
--- of these kinds only one gives something
+-- only one kind of lines gives something
 abbrev no_rows : {A : Type 0} → Canton → List A
 no_rows canton = flat_map (λ (d : ℕ). []) (row_numbers canton)
 

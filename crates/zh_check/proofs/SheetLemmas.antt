@@ -1,4 +1,4 @@
--- What is read of the text of a sheet is what the sheet says.
+-- The values that are read from the text of a sheet are those of the sheet.
 use Rattle.std.proofs.Common.{◌≡◌, ℕ, ◌+◌, ◌-◌, ◌*◌, ◌^◌, ◌<◌, ◌≤◌, All, Bool, true, false, cond, Option, refl, sym, ap, ◌∙◌, arith, mul_comm, decimal}
 use Rattle.std.proofs.Common.{List, [], ◌∷◌, length, get_or, map, flat_map, min}
 use Rattle.std.specs.Prelude.{codes}
@@ -36,7 +36,7 @@ use Rattle.zh_check.proofs.SpelledLemmas.{last_spelled, spelled}
 use Rattle.zh_check.proofs.TableLemmas.{in_square, in_table, length-square, length-table, same_table, table}
 use Rattle.zh_check.proofs.WordLemmas.{decimal_word, divisor_or_dash, divisor_word, is_final_word, kind_word, read-divisor, read-divisor_or_dash}
 
--- what is read of a word that is written
+-- the number that is read from a word that was written
 number_shown : (n : ℕ) → n < 2 ^ 64 → number_of_word (leading_word (decimal n)) ≡ n
 number_shown n small = ap number_of_word (word_alone (decimal n) (decimal_word n)) ∙ decimal_read n small
 
@@ -59,11 +59,11 @@ kind_is false = refl
 kind_shown : (is_final : Bool) → is_final_word (leading_word (cond is_final (codes "final") (codes "provisional"))) ≡ is_final
 kind_shown is_final = ap is_final_word (word_alone (cond is_final (codes "final") (codes "provisional")) (kind_word is_final)) ∙ kind_is is_final
 
--- what a sheet says at each part
+-- the text of each part of a sheet
 abbrev said : Distribution → ℕ → Bool → ℕ → SheetPart → List ℕ
 said x desk is_final accepted = part_text x (record { desk = desk; is_final = is_final; accepted = accepted })
 
--- numbers that the words of some lines, and of a table of lines, give
+-- the numbers that the words of some lines give, and those of a table of lines
 listed : (number : List ℕ → ℕ) (word : ℕ → List ℕ) (xs : List ℕ) → ((k : ℕ) → k < length xs → number (word (k + 1)) ≡ get_or xs k 0) →
     map number (map word (range_with_len 1 (length xs))) ≡ xs
 listed number word xs each =
@@ -80,7 +80,7 @@ tabled number word columns rows d g row column =
     let within : d * columns + g < length words = omega (arith, length-square word columns rows, mul-add-lt d columns g rows row column, mul_comm columns rows) in
     get_or-map number words (d * columns + g) [] 0 within ∙ ap number (in_square word columns rows d g [] row column)
 
--- the votes of a list that stands or not, and its seats
+-- the votes of a list, whether or not it stands, and its seats
 votes_shown : (x : Distribution) → IsPublished x → (d g : ℕ) → d < length x.totals.canton.constituencies → g < length x.totals.canton.groups →
     (b : Bool) → stands x.totals.canton (d + 1) (g + 1) ≡ b →
     number_of_word (leading_word (cond b (decimal (votes_in x.totals (d + 1) (g + 1))) [])) ≡ votes_in x.totals (d + 1) (g + 1)
@@ -106,11 +106,11 @@ module _ (x : Distribution) (desk : ℕ) (is_final : Bool) (accepted : ℕ) (is 
       all_shown x.totals.canton (said x desk is_final accepted) (spelled x is head low high small) (last_spelled x is head low high small) (sheet_lines x.totals.canton)
       (all_lines x.totals.canton is.totals.canton)
 
-  -- the text is in its form
+  -- the text is in the form of a sheet
   pub sheet_formed : IsFormed x.totals.canton (sheet_text x desk is_final accepted)
   sheet_formed = sym (lines_formed x.totals.canton (said x desk is_final accepted) (sheet_lines x.totals.canton) shown)
 
-  -- the words that the lines have at the parts of a kind
+  -- the words of a line at the parts of one kind
   abbrev in_line : (SheetPart → Bool) → SheetLine → List (List ℕ)
   in_line test line = found_words (said x desk is_final accepted) test line
 
@@ -118,7 +118,7 @@ module _ (x : Distribution) (desk : ℕ) (is_final : Bool) (accepted : ℕ) (is 
       words_at test (sheet_lines x.totals.canton) (sheet_text x desk is_final accepted) ≡ are
   words test are same = lines_read x.totals.canton (said x desk is_final accepted) test (sheet_lines x.totals.canton) shown ∙ same
 
-  -- the first line
+  -- the values of the first line
   pub desk_is : (head_read x.totals.canton (sheet_text x desk is_final accepted)).desk ≡ desk
   desk_is =
       let first : List (List ℕ) = leading_word (decimal desk) ∷ [] in
@@ -140,7 +140,7 @@ module _ (x : Distribution) (desk : ℕ) (is_final : Bool) (accepted : ℕ) (is 
       (words (is_like Accepted) first (kinds (in_line (is_like Accepted)) x.totals.canton refl refl refl refl (λ n. refl) refl ∙ only_first x.totals.canton first))
       ∙ number_shown accepted small
 
-  -- the divisors of the constituencies, and those of the groups
+  -- the divisors of the constituencies, and of the groups
   rows_are : row_divisors_read x.totals.canton (sheet_text x desk is_final accepted) ≡ x.lower.divisors.of_rows
   rows_are =
       let rows : List ℕ = x.lower.divisors.of_rows in
@@ -195,7 +195,7 @@ module _ (x : Distribution) (desk : ℕ) (is_final : Bool) (accepted : ℕ) (is 
       ∙ (tabled seats_of_word f n m d (g - 1) row column
       ∙ (seats_shown x published d (g - 1) row column (stands x.totals.canton (d + 1) (g - 1 + 1)) refl ∙ ap (list_seats x (d + 1)) along)))
 
-  -- the seats of the lists in the columns of the seated groups
+  -- the seats of the lists of groups with seats
   in_columns : IsPublished x →
       seats_in_columns x.totals.canton (group_divisors x (length x.upper.seats)) (seats_read x.totals.canton (sheet_text x desk is_final accepted)) ≡ x.lower.seats
   in_columns published =
@@ -209,7 +209,7 @@ module _ (x : Distribution) (desk : ℕ) (is_final : Bool) (accepted : ℕ) (is 
       in_table f seated m d j 0 row column
       ∙ (seats_are published d (get_or seated j 0) row group.from_one (omega (arith, group.there, group_count x is)) ∙ seats_at x is d j column))
 
-  -- the seats and divisors of the lists
+  -- the seats and the divisors of the lists
   pub lower_is : IsPublished x → x.lower ≡ lists_read x.totals.canton (sheet_text x desk is_final accepted)
   lower_is published =
       let canton : Canton = x.totals.canton in

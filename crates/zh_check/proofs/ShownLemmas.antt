@@ -1,4 +1,4 @@
--- Lists of a published distribution: they have no seats where they do not stand.
+-- The lists of a published distribution have no seats if they do not stand.
 use Rattle.std.proofs.Common.{◌≡◌, ℕ, ◌+◌, ◌-◌, ◌*◌, ◌^◌, ◌<◌, ◌≤◌, false, List, length, get_or, Option, Some, None, refl, sym, ap, ◌∙◌, inl, inr, arith}
 use Rattle.std.specs.Prelude.{◌==◌}
 use Rattle.std.specs.Option.{option_map_or}
@@ -43,7 +43,7 @@ none_column x d g (Some k) is low high none e =
       | inr zero ↦ omega (arith, here, zero)
     ]
 
--- a list that does not stand has none
+-- a list that does not stand has no seats
 pub hidden_seats : (x : Distribution) → IsPublished x → (d g : ℕ) → 1 ≤ d → d ≤ length x.totals.canton.constituencies → 1 ≤ g → g ≤ length x.totals.canton.groups →
     stands x.totals.canton d g ≡ false → list_seats x d g ≡ 0
 hidden_seats x is d g low high from_one there not =

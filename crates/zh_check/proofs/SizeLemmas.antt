@@ -1,4 +1,4 @@
--- How much is read of a text.
+-- How many values are read from a text.
 use Rattle.std.proofs.Common.{◌≡◌, ℕ, ◌*◌, Bool, true, false, cond, List, [], ◌∷◌, ◌++◌, length, map, filter, flat_map, refl, ap, ◌∙◌, arith, length-append}
 use Rattle.std.proofs.lemmas.List.{length-map}
 use Rattle.std.proofs.lemmas.List.FromFn.{length-map-range_with_len}
@@ -14,7 +14,7 @@ use Rattle.zh_check.proofs.TableLemmas.{length-square, table}
 pub length-standing : (canton : Canton) → length (standing canton) ≡ length canton.constituencies * length canton.groups
 length-standing canton = length-square (stands canton) (length canton.groups) (length canton.constituencies)
 
--- a word for each part that passes a test
+-- the parts of a line that pass a test, each of which gives a word
 abbrev parts_at : (SheetPart → Bool) → SheetLine → List SheetPart
 parts_at test line = filter test line.parts
 
@@ -39,7 +39,7 @@ length-words test (line ∷ lines) text =
       length-words test lines (after_if line.is_there text),
     )
 
--- where these are the parts
+-- the number of values, given the parts that pass the test
 length-read : (test : SheetPart → Bool) (number : List ℕ → ℕ) (canton : Canton) (text : List ℕ) (parts : List SheetPart) →
     flat_map (parts_at test) (sheet_lines canton) ≡ parts → length (map number (words_at test (sheet_lines canton) text)) ≡ length parts
 length-read test number canton text parts are =

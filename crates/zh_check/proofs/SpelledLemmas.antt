@@ -1,4 +1,4 @@
--- What a sheet says at a part is a word that may stand there.
+-- The text of each part of a sheet is a word that is possible there.
 use Rattle.std.proofs.Common.{◌≡◌, ℕ, ◌-◌, ◌^◌, ◌<◌, ◌≤◌, Bool, true, false, refl, ap, ◌∙◌, arith, decimal, slice_index}
 use Rattle.std.specs.Prelude.{codes}
 use Rattle.zh_districts.specs.Canton.{Constituency, Group}
@@ -87,7 +87,7 @@ module _ (x : Distribution) (is : IsDistribution x) (head : Head) (low : 1 ≤ h
       let s : ℕ = list_seats x d g in
       (decimal_word s, word_filled (ListSeats d g) (decimal s) (seats_fit s (list_seats_small x is d g of.0.from_one of.0.there)))
 
-  -- a name may stand at the end of a line, and a word too
+  -- a name is possible at the end of a line, and so is a word
   named : (part : SheetPart) → is_name_part part ≡ true → IsLast x.totals.canton (part_text x head) part
   named (ConstituencyName d) name = (named_plain (λ (c : Constituency). c.name) x.totals.canton.constituencies (d - 1) is.totals.canton.constituency_names.rule, refl)
   named (GroupName g) name = (named_plain (λ (c : Group). c.name) x.totals.canton.groups (g - 1) is.totals.canton.group_names.rule, refl)

@@ -1,4 +1,4 @@
--- Tables: for each constituency in turn a value for each of some columns.
+-- Tables: for each constituency, in order, a value for each of some columns.
 use Rattle.std.proofs.Common.{◌≡◌, ℕ, ◌+◌, ◌*◌, ◌/◌, ◌%◌, ◌<◌, List, [], ◌∷◌, ◌++◌, length, get_or, map, flat_map, sym, ap, ◌∙◌, arith, mul_comm, append-nil}
 use Rattle.std.specs.List.{range_with_len}
 use Rattle.std.proofs.lemmas.List.{ext_get_or, get_or-map, length-map}
@@ -41,13 +41,13 @@ in_square f columns rows d g e row column =
     ap (λ w. get_or (table f (range_with_len 1 columns) rows) (d * w + g) e) (sym long)
     ∙ (in_table f (range_with_len 1 columns) rows d g e row (omega (arith, column, long)) ∙ ap (f (d + 1)) number)
 
--- one row more
+-- one more row
 pub table_more : {A : Type 0} (f : ℕ → ℕ → A) (columns : List ℕ) (rows : ℕ) → table f columns (rows + 1) ≡ table f columns rows ++ map (f (rows + 1)) columns
 table_more f columns rows =
     ap (flat_map (λ (d : ℕ). map (f d) columns)) (numbers_more rows)
     ∙ (flat_map-append (λ (d : ℕ). map (f d) columns) (range_with_len 1 rows) ((rows + 1) ∷ []) ∙ ap (λ xs. table f columns rows ++ xs) (append-nil (map (f (rows + 1)) columns)))
 
--- two lists of so many rows that have the same values at their places
+-- two lists with the same number of rows and the same value at each place are equal
 pub same_table : (rows columns : ℕ) (xs all : List ℕ) → length xs ≡ rows * columns → length all ≡ rows * columns →
     ((d g : ℕ) → d < rows → g < columns → get_or xs (d * columns + g) 0 ≡ get_or all (d * columns + g) 0) → xs ≡ all
 same_table rows columns xs all long whole each =

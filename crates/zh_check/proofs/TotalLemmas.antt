@@ -11,7 +11,7 @@ use Rattle.zh_check.specs.Totals.{AreConstituencySeats, AreGroupSeats, AreMet, F
 use Rattle.zh_check.specs.declared.checked.OffTotal.{OffTotal}
 use Rattle.zh_check.specs.declared.reasons.Unmet.{Unmet}
 
--- few seats are read
+-- a list is read to have at most 400 seats
 few_of : (words : List (List ℕ)) → All (λ s. s ≤ 400) (map seats_of_word words)
 few_of [] = All-nil (λ s. s ≤ 400)
 few_of (word ∷ words) = All-cons (λ s. s ≤ 400) (seats_of_word word) (map seats_of_word words) (omega arith) (few_of words)
@@ -19,7 +19,7 @@ few_of (word ∷ words) = All-cons (λ s. s ≤ 400) (seats_of_word word) (map s
 pub few_read : (canton : Canton) (text : List ℕ) → All (λ s. s ≤ 400) (seats_read canton text)
 few_read canton text = few_of (words_at (is_like (ListSeats 0 0)) (sheet_lines canton) text)
 
--- the sums that are taken
+-- the sums that are computed
 pub row_sum : (canton : Canton) (text seats : List ℕ) (groups : ℕ) → seats ≡ seats_read canton text → groups ≡ length canton.groups → (d : ℕ) →
     spaced_sum seats (d * groups) groups 1 ≡ constituency_sum canton text d
 row_sum canton text seats groups read same d =
@@ -35,7 +35,7 @@ column_sum canton text seats rows columns read tall wide g =
     ap (λ xs. spaced_sum xs (g * 1) rows columns) read
     ∙ ((λ i. spaced_sum (seats_read canton text) (g * 1) (tall i) (wide i)) ∙ (λ i. sum_to (length canton.constituencies) (λ k. get_or (seats_read canton text) (place k i) 0)))
 
--- the first sum that is not met
+-- the first total that is not met
 pub off_among : (sum their : ℕ → ℕ) (totals text : List ℕ) (before line : ℕ) (unmet : Unmet) (off : OffTotal) → ((k : ℕ) → sum k ≡ their k) →
     IsUnmet sum totals unmet → line ≡ before + unmet.place → IsSaid text line unmet.seats (get_or totals unmet.place 0) off → IsOffAmong their totals text before off
 off_among sum their totals text before line unmet off same is at said = record {
@@ -53,7 +53,7 @@ off_among sum their totals text before line unmet off same is at said = record {
   };
 }
 
--- the totals of the constituencies are met, and then those of the groups or not
+-- the totals of the constituencies are met; those of the groups are met, or are not
 pub groups_found : (canton : Canton) (text rows upper : List ℕ) (found : Option OffTotal) → AreConstituencySeats canton rows →
     AreGroupSeats (totals_read canton text) rows upper → AreMet (constituency_sum canton text) rows →
     FindsOffAmong (group_sum canton text) upper text (1 + lines_above canton + length canton.constituencies) found → FindsOffTotal canton text found

@@ -1,4 +1,4 @@
--- What is recomputed of a text, and what is right.
+-- The sheet that is recomputed from a text, and the right sheet.
 use Rattle.std.proofs.Common.{◌≡◌, ◌≢◌, ℕ, ◌-◌, ◌^◌, ◌<◌, ◌≤◌, Bool, List, [], ◌∷◌, map, Option, Some, None, sym, ap, ◌∙◌, subst, arith}
 use Rattle.std.specs.Prelude.{IfSome}
 use Rattle.zh_districts.specs.Canton.{Canton}
@@ -21,7 +21,7 @@ use Rattle.zh_check.specs.declared.checked.WrongLine.{WrongLine}
 use Rattle.zh_check.specs.declared.checked.RightSheet.{RightSheet}
 use Rattle.zh_check.proofs.SheetLemmas.{accepted_is, desk_is, final_is, lower_is, sheet_formed, votes_are}
 
--- seats that do not follow
+-- the seats do not follow
 pub no_sheet : (canton : Canton) (text : List ℕ) (totals : VoteTotals) (lists : SeatMatrix) → totals ≡ totals_read canton text → lists ≡ lists_read canton text →
     IsGiven totals lists None → FindsSheet canton text None
 no_sheet canton text totals lists votes seats given = record {
@@ -29,7 +29,7 @@ no_sheet canton text totals lists votes seats given = record {
   every = λ c is. let e : None ≡ Some c.sheet = given.every c.sheet is.meets (is.votes ∙ sym votes) (is.lists ∙ sym seats) in absurd (cc);
 }
 
--- the sheet that follows
+-- the sheet follows
 pub one_sheet : (canton : Canton) (text : List ℕ) (totals : VoteTotals) (lists : SeatMatrix) (x : Distribution) (desk : ℕ) (is_final : Bool) (accepted : ℕ) →
     totals ≡ totals_read canton text → lists ≡ lists_read canton text → IsGiven totals lists (Some x) →
     1 ≤ desk → desk ≤ 8 → desk ≡ (head_read canton text).desk → is_final ≡ (head_read canton text).is_final → accepted ≡ (head_read canton text).accepted →
@@ -53,7 +53,7 @@ one_sheet canton text totals lists x desk is_final accepted votes seats given lo
       λ i. Some (record { sheet = sheet i; desk = desks i; is_final = kinds i; accepted = counts i });
 }
 
--- a number that is read has at most 64 bits
+-- a number that is read is below 2 ^ 64
 latest_most : (before : ℕ) (words : List (List ℕ)) → before ≤ 2 ^ 64 - 1 → latest before (map number_of_word words) ≤ 2 ^ 64 - 1
 latest_most before [] most = most
 latest_most before (word ∷ words) most = latest_most (number_of_word word) words (omega arith)
@@ -61,7 +61,7 @@ latest_most before (word ∷ words) most = latest_most (number_of_word word) wor
 accepted_most : (canton : Canton) (text : List ℕ) → (head_read canton text).accepted ≤ 2 ^ 64 - 1
 accepted_most canton text = latest_most 0 (words_at (is_like Accepted) (sheet_lines canton) text) (omega arith)
 
--- a sheet is recomputed from its own text
+-- a sheet can be recomputed from its own text
 own_text : (c : RightSheet) → (1 ≤ c.desk) × (c.desk ≤ 8) → c.accepted ≤ 2 ^ 64 - 1 → IsPublished c.sheet → IsRecomputed c.sheet.totals.canton (right_text c) c
 own_text c desk accepted published =
     let is = published.distribution in
@@ -82,7 +82,7 @@ right_recomputed canton held bytes c is =
     subst (λ text. IsRecomputed canton text c) (sym is.text)
     (subst (λ k. IsRecomputed k (right_text c) c) is.same_setup (own_text c is.desk is.accepted is.meets))
 
--- the right sheet is the one that is found
+-- a right sheet is the one that is found
 pub only_found : (canton : Canton) (held : Option VoteTotals) (bytes : List ℕ) (found : Option RightSheet) → FindsSheet canton bytes found →
     (c : RightSheet) → IsRight canton held bytes c → found ≡ Some c
 only_found canton held bytes found is c right = is.every c (right_recomputed canton held bytes c right)
@@ -107,7 +107,7 @@ why_reason canton held bytes (verdicts.OtherVotes other) parts found why = absur
 why_reason canton held bytes (verdicts.Differs wrong) parts found why = absurd why
 why_reason canton held bytes verdict parts found why = (parts, none_recomputed canton bytes found, why)
 
--- a text that is not in its form is no sheet's
+-- the text of a right sheet is in the form of a sheet; any other text is not right
 right_formed : (canton : Canton) (held : Option VoteTotals) (bytes : List ℕ) (c : RightSheet) → IsRight canton held bytes c → IsFormed canton bytes
 right_formed canton held bytes c is =
     subst (λ text. IsFormed canton text) (sym is.text)
@@ -117,7 +117,7 @@ pub off_form : (canton : Canton) (held : Option VoteTotals) (bytes : List ℕ) (
     (c : RightSheet) → ¬ IsRight canton held bytes c
 off_form canton held bytes wrong off c right = off.other (right_formed canton held bytes c right)
 
--- the right sheet is the one that follows
+-- a right sheet is the one that follows
 only_this : (canton : Canton) (held : Option VoteTotals) (bytes : List ℕ) (r : RightSheet) → FindsSheet canton bytes (Some r) →
     (c : RightSheet) → IsRight canton held bytes c → r ≡ c
 only_this canton held bytes r found c right = let e : Some r ≡ Some c = only_found canton held bytes (Some r) found c right in cc
@@ -137,7 +137,7 @@ differs_from canton bytes expected wrong r found printed differ at = record {
   line = subst (λ t. DiffersAt bytes t t wrong) printed (at differ);
 }
 
--- a sheet is of the votes that its text shows
+-- the votes of a sheet are those that its text shows
 held_votes : (canton : Canton) (held : Option VoteTotals) (bytes : List ℕ) (c : RightSheet) → IsRecomputed canton bytes c →
     IfSome held (λ h. c.sheet.totals.votes ≡ h.votes) → HasHeldVotes canton held bytes
 held_votes canton None bytes c is same = tt
@@ -148,13 +148,13 @@ read_votes : (canton : Canton) (held : Option VoteTotals) (bytes : List ℕ) (c 
 read_votes canton None bytes c is same = tt
 read_votes canton (Some h) bytes c is same = ap (λ t. t.votes) is.votes ∙ same
 
--- other votes are held
+-- the votes held are different
 pub other_votes : (canton : Canton) (held : Option VoteTotals) (bytes : List ℕ) (other : OtherVotes) → HasOtherVotes canton held bytes other →
     (c : RightSheet) → ¬ IsRight canton held bytes c
 other_votes canton held bytes other are c right =
     are.votes (held_votes canton held bytes c (right_recomputed canton held bytes c right) right.votes)
 
--- no line is found that is none of its kind, and no list of which other votes are held
+-- no line is found that is not of its kind, and no list whose votes differ from those held
 pub parts_hold : (canton : Canton) (held : Option VoteTotals) (bytes : List ℕ) (form : Option WrongLine) (votes : Option OtherVotes) →
     form ≡ None → votes ≡ None → FindsOffForm canton bytes form → FindsOtherVotes canton held bytes votes → PartsHold canton held bytes
 parts_hold canton held bytes form votes no_form no_votes formed are = record {

@@ -1,4 +1,4 @@
--- Numerals and other words, and the numbers that their digits write.
+-- Numerals and other words, and the number that their digits give.
 use Rattle.std.proofs.Common.{◌≡◌, ℕ, zero, suc, ◌+◌, ◌-◌, ◌*◌, ◌/◌, ◌%◌, ◌^◌, ◌<◌, ◌≤◌, All, Bool, true, false, cond}
 use Rattle.std.proofs.Common.{List, [], ◌∷◌, ◌++◌, length, map, slice_get, Some, None, Option, refl, ap, ◌∙◌, arith, decimal}
 use Rattle.std.specs.Prelude.{IsTrue, nat_le, codes, replicate, ◌==◌}
@@ -21,7 +21,7 @@ use Rattle.zh_check.specs.Lines.{digits_after}
 use Rattle.zh_check.proofs.DigitLemmas.{after_append}
 use Rattle.zh_check.proofs.SeamLemmas.{IsPlain, IsWord}
 
--- what holds of a text of digits, whatever these are, holds of a numeral
+-- what holds for all texts of digits holds for numerals
 digit : (n : ℕ) → (48 ≤ digit_glyph false (n % 10)) × (digit_glyph false (n % 10) ≤ 57)
 digit n =
     let small : n % 10 < 10 = mod-lt n (omega arith) in
@@ -59,7 +59,7 @@ decimal_word =
     numeral_is (λ ds. IsWord ds) (λ d low high. All-cons (λ b. 33 ≤ b) d [] (omega (arith, low)) (All-nil (λ b. 33 ≤ b)))
     (λ d ds low high is. All-cons (λ b. 33 ≤ b) d ds (omega (arith, low)) is)
 
--- digits are read as they are written
+-- the number of some digits
 after_digits : (ds : List ℕ) (n : ℕ) → AllDigits 10 ds → digits_after n ds ≡ digits_value_after 10 n ds
 after_digits [] n all = refl
 after_digits (d ∷ ds) n all =
@@ -74,7 +74,7 @@ read-decimal n small =
     let is = decimal_is_IsNumeral n small in
     after_digits (decimal n) 0 is.0.1 ∙ is.1
 
--- the worth of so many places
+-- the value of the nth decimal place
 abbrev pub places : ℕ → ℕ
 places zero = 1
 places (suc n) = 10 * places n
@@ -92,7 +92,7 @@ after_places (d ∷ ds) n all =
     let none = after_places ds (0 * 10 + (d - 48)) all.1 in
     rw (low, high) (shifted (digits_after (n * 10 + (d - 48)) ds) (digits_after (0 * 10 + (d - 48)) ds) n (d - 48) (places (length ds)) (digits_after 0 ds) one none)
 
--- zeros in front
+-- leading zeros
 zeros_word : (k : ℕ) → IsWord (replicate k 48)
 zeros_word zero = All-nil (λ b. 33 ≤ b)
 zeros_word (suc k) = All-cons (λ b. 33 ≤ b) 48 (replicate k 48) (omega arith) (zeros_word k)
@@ -109,7 +109,7 @@ length-zeros : (k : ℕ) (ds : List ℕ) → length (replicate k 48 ++ ds) ≡ k
 length-zeros zero ds = omega arith
 length-zeros (suc k) ds = omega (arith, length-zeros k ds)
 
--- a divisor is a word, and its digits write it
+-- a divisor is a word, and its digits give its millionths
 pub divisor_word : (m : ℕ) → IsWord (divisor_text m)
 divisor_word m =
     All-append (λ b. 33 ≤ b) (decimal (m / 1000000) ++ codes ".") (padded 6 (m % 1000000))
@@ -152,13 +152,13 @@ pub fraction_word : (n m : ℕ) → IsWord (decimal n ++ (codes "/" ++ decimal m
 fraction_word n m =
     All-append (λ b. 33 ≤ b) (decimal n) (codes "/" ++ decimal m) (decimal_word n) (All-cons (λ b. 33 ≤ b) 47 (decimal m) (omega arith) (decimal_word m))
 
--- the digits of a divisor, or none
+-- the digits of a divisor, or of a dash
 pub read-divisor_or_dash : (divisor : ℕ → ℕ) (found : Option ℕ) → option_map_or divisor found 0 < 2 ^ 64 →
     digits_after 0 (option_map_or (λ k. divisor_text (divisor k)) found (codes "-")) ≡ option_map_or divisor found 0
 read-divisor_or_dash divisor None small = refl
 read-divisor_or_dash divisor (Some k) small = read-divisor (divisor k) small
 
--- a text that a test finds to be a word
+-- a text that passes the test is a word
 pub by_test : (word : List ℕ) → list_all (λ b. nat_le 33 b) word ≡ true → IsWord word
 by_test [] e = All-nil (λ b. 33 ≤ b)
 by_test (b ∷ word) e =
@@ -187,7 +187,7 @@ printable (b ∷ name) e =
 name_plain : (name : List ℕ) → IsTrue (is_name name) → IsPlain name
 name_plain name is = printable name (and_parts _ _ (and_parts _ _ is).1).1
 
--- that of a part of the set-up, which has none where there is no such part
+-- the name of a part of the set-up, or an empty text if there is no such part
 pub named_plain : {X : Type 0} (name : X → List ℕ) (xs : List X) (k : ℕ) → All (λ name. IsTrue (is_name name)) (map name xs) →
     IsPlain (option_map_or name (slice_get xs k) [])
 named_plain name [] k rule = All-nil (λ b. 32 ≤ b)

@@ -10,24 +10,24 @@ use Rattle.zh_check.specs.declared.checked.OffList.{OffList}
 use Rattle.zh_check.specs.declared.checked.ListQuotient.{ListQuotient}
 use Rattle.zh_check.specs.declared.checked.ListQuotient.TheVariants.{NoDivisor, OnHalf, RoundsTo}
 
--- n / p lies on a half
+-- n / p is on a half
 pub record LiesOnHalf (n p : ℕ) : Type 0 where
   pub positive : 0 < p
   pub whole : ℕ
   pub half : 2 * n ≡ (2 * whole + 1) * p
 
--- what n / p comes to
+-- what n / p rounds to, if it does
 abbrev pub IsQuotient : ℕ → ℕ → ListQuotient → Type 0
 IsQuotient n p (RoundsTo s) = Rounds n p s
 IsQuotient n p OnHalf = LiesOnHalf n p
 IsQuotient n p NoDivisor = p ≡ 0
 
--- the votes over both divisors, in millionths, round to the seats, on no half; a group without a divisor has none
+-- the votes over both divisors, in millionths, round to the seats and are not on a half; without a divisor of the group there are no seats
 pub record DoSeatsFollow (list : ShownList) : Type 0 where
   pub none : list.column_divisor ≡ 0 → list.seats ≡ 0
   pub rounds : 0 < list.column_divisor → Rounds (list.votes * (1000000 * 1000000)) (list.row_divisor * list.column_divisor) list.seats
 
--- the list at a place, constituency by constituency, as a text shows it
+-- the list at a place, by constituency and group, as a text shows it
 abbrev pub shown_list : Canton → List ℕ → ℕ → ShownList
 shown_list canton text place = record {
   votes = slice_index (votes_read canton text) place;
@@ -36,24 +36,24 @@ shown_list canton text place = record {
   seats = slice_index (seats_read canton text) place;
 }
 
--- its seats follow, where it stands
+-- if the list stands, its seats follow
 abbrev pub DoFollowAt : Canton → List ℕ → ℕ → Type 0
 DoFollowAt canton text place = slice_index_or (standing canton) place false ≡ true → DoSeatsFollow (shown_list canton text place)
 
--- the number of the line of that list, from 1
+-- the line number of that list, from 1
 abbrev pub line_of_list : Canton → ℕ → ℕ
 line_of_list canton place =
     2 + lines_above canton + length canton.constituencies + length canton.groups
     + count_by (λ stands. stands) (take place (standing canton))
 
--- what is said of a list: its votes and divisors, and what they come to
+-- the report of a list: its votes, its divisors, and their quotient
 pub record IsOffAs (list : ShownList) (off : OffList) : Type 0 where
   pub votes : off.votes ≡ list.votes
   pub row : off.row_divisor ≡ list.row_divisor
   pub column : off.column_divisor ≡ list.column_divisor
   pub quotient : IsQuotient (list.votes * (1000000 * 1000000)) (list.row_divisor * list.column_divisor) off.quotient
 
--- this is the first list whose seats do not follow, and what they should be
+-- this is the first list whose seats do not follow, with its line and its report
 pub record IsOffList (canton : Canton) (text : List ℕ) (off : OffList) : Type 0 where
   pub place : ℕ
   pub there : place < length canton.constituencies * length canton.groups
@@ -67,6 +67,6 @@ pub record IsOffList (canton : Canton) (text : List ℕ) (off : OffList) : Type 
 abbrev pub EachFollows : Canton → List ℕ → Type 0
 EachFollows canton text = (k : ℕ) → k < length canton.constituencies * length canton.groups → DoFollowAt canton text k
 
--- the first list whose seats do not, if there is one
+-- the first list whose seats do not follow, if there is one
 abbrev pub FindsOffList : Canton → List ℕ → Option OffList → Type 0
 FindsOffList canton text found = MatchOption found (EachFollows canton text) (IsOffList canton text)

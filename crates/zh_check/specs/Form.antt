@@ -1,4 +1,4 @@
--- The form of a sheet: what each of its lines says whatever the votes are. The words that only votes can give are those of the text.
+-- The form of a sheet: what its lines say whatever the votes are. The words that only votes can give are taken from the text.
 use Rattle.std.specs.Prelude.{◌≡◌, ℕ, ◌==◌, ◌&&◌, ◌||◌, not, Bool, false, Option, Some, None, MatchOption, unwrap_or, if◌then◌else◌, codes}
 use Rattle.std.specs.Prelude.{List, [], ◌∷◌, ◌++◌, decimal, filter, length, nat_le}
 use Rattle.std.specs.Char.{is_ascii_digit}
@@ -16,7 +16,7 @@ use Rattle.zh_check.specs.Differences.{DiffersAt}
 use Rattle.zh_check.specs.Lines.{after_if, after_word, first_line, leading_word, number_of_word}
 use Rattle.zh_check.specs.declared.checked.WrongLine.{WrongLine}
 
--- the number that is read of a word is written so: in decimal, with no zeros in front
+-- the number in a word is written as sheets write it: in decimal, without leading zeros
 abbrev pub is_number : List ℕ → Bool
 is_number word = bytes_eq word (decimal (number_of_word word))
 
@@ -24,18 +24,18 @@ is_number word = bytes_eq word (decimal (number_of_word word))
 abbrev pub is_number_from : ℕ → ℕ → List ℕ → Bool
 is_number_from low high word = is_number word && (nat_le low (number_of_word word) && nat_le (number_of_word word) high)
 
--- a divisor of as many millionths is written so: six digits follow the point
+-- the word is a divisor as sheets write it: with six digits after the point
 abbrev pub is_divisor : List ℕ → Bool
 is_divisor word = bytes_eq word (divisor_text (number_of_word word))
 
--- some digits, with such a byte among them or not: 47 is a slash, 48 the digit 0
+-- the word is not empty, and each byte of it is a digit or `mark`; 47 is a slash, 48 the digit 0
 abbrev pub is_digit_or : ℕ → ℕ → Bool
 is_digit_or mark byte = is_ascii_digit byte || byte == mark
 
 abbrev pub is_made_of_digits : ℕ → List ℕ → Bool
 is_made_of_digits mark word = not (length word == 0) && list_all (is_digit_or mark) word
 
--- whether a word may stand at a part: where its number is read, the word is how a sheet writes that number
+-- whether a word is possible at a part; if its number is read, the word has to be what a sheet writes for that number
 abbrev pub fits : SheetPart → List ℕ → Bool
 fits Desk word = is_number_from 1 8 word
 fits Kind word = bytes_eq word (codes "provisional") || bytes_eq word (codes "final")
@@ -54,15 +54,15 @@ fits (ListVoters d g) word = bytes_eq word (codes "-") || is_made_of_digits 48 w
 fits (ListSeats d g) word = is_number_from 0 400 word
 fits part word = false
 
--- two dots, or one in place of two: never the word itself
+-- two dots, or one if the word is two dots; so the result always differs from the word
 abbrev pub dots_for : List ℕ → List ℕ
 dots_for word = if bytes_eq word (codes "..") then codes "." else codes ".."
 
--- a word where it may stand at a part, and else dots
+-- the word, if it is possible at this part, otherwise dots
 abbrev pub filled : SheetPart → List ℕ → List ℕ
 filled part word = if fits part word then word else dots_for word
 
--- what the set-up alone says at a part
+-- what the set-up alone determines at a part
 abbrev pub known_text : Canton → SheetPart → Option (List ℕ)
 known_text canton (Fixed label) = Some (label_text label)
 known_text canton (Number n) = Some (decimal n)
@@ -73,38 +73,38 @@ known_text canton part = None
 abbrev pub part_form : Canton → SheetPart → List ℕ → List ℕ
 part_form canton part word = unwrap_or (known_text canton part) (filled part word)
 
--- a line of such parts, from the words of the line that is found at its place
+-- the form of a line with these parts, with the words of the line found in its place
 abbrev pub parts_form : Canton → List SheetPart → List ℕ → List ℕ
 parts_form canton [] line = []
 parts_form canton (part ∷ parts) line =
     part_form canton part (leading_word line) ++ mark_before parts ∷ parts_form canton parts (after_word line)
 
--- a line in its form, where it is there
+-- the form of a line, if it is written
 abbrev pub line_form : Canton → SheetLine → List ℕ → List ℕ
 line_form canton line text = if line.is_there then parts_form canton line.parts (first_line text) else []
 
--- a text in the forms of lines, line by line
+-- the forms of lines, one after another
 abbrev pub in_forms : Canton → List SheetLine → List ℕ → List ℕ
 in_forms canton [] text = []
 in_forms canton (line ∷ lines) text = line_form canton line text ++ in_forms canton lines (after_if line.is_there text)
 
--- a text in the form of a sheet; that of no text has dots for each word that only votes can give
+-- the form of a sheet with the words of a text; with an empty text it has dots for each word that only votes can give
 abbrev pub formed : Canton → List ℕ → List ℕ
 formed canton text = in_forms canton (sheet_lines canton) text
 
--- a text is in the form of a sheet
+-- the text is in the form of a sheet
 abbrev pub IsFormed : Canton → List ℕ → Type 0
 IsFormed canton text = text ≡ formed canton text
 
--- a text without each CR, byte 13: no name of a set-up has one
+-- the text without CRs, byte 13; no name in a set-up contains one
 abbrev pub without_crs : List ℕ → List ℕ
 without_crs text = filter (λ b. not (b == 13)) text
 
--- what the lines should be: those without each CR where they are in the form of a sheet, and else those with dots
+-- what the lines should be: those of the text without CRs if that is in the form of a sheet, otherwise those of the form with dots
 abbrev pub shown_form : Canton → List ℕ → List ℕ
 shown_form canton text = if bytes_eq (without_crs text) (formed canton (without_crs text)) then without_crs text else formed canton []
 
--- it is not in its form: the first line that is none of its kind, and what it should be
+-- the text is not in the form of a sheet: the first line that is not of its kind, and what it should be
 pub record IsOffForm (canton : Canton) (text : List ℕ) (wrong : WrongLine) : Type 0 where
   pub other : ¬ IsFormed canton text
   pub line : DiffersAt text (formed canton text) (shown_form canton text) wrong

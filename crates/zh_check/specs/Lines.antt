@@ -1,4 +1,4 @@
--- The lines of a text and the words of a line: 10 ends a line, 32 stands between words.
+-- The lines of a text and the words of a line: 10 ends a line, 32 separates words.
 use Rattle.std.specs.Prelude.{ℕ, zero, suc, ◌+◌, ◌-◌, ◌*◌, ◌^◌, ◌==◌, min, Bool, true, false}
 use Rattle.std.specs.Prelude.{if◌then◌else◌, List, [], ◌∷◌, take}
 use Rattle.std.specs.Char.{is_ascii_digit}
@@ -10,7 +10,7 @@ ends_line byte = byte == 10
 abbrev pub parts_words : ℕ → Bool
 parts_words byte = byte == 32
 
--- the first line, without its end, and what follows it
+-- the first line, without its end, and what follows its end
 unfoldable pub first_line : List ℕ → List ℕ
 first_line text = before_first ends_line text
 
@@ -21,12 +21,12 @@ after_line text = after_first ends_line text
 unfoldable pub whole_line : List ℕ → List ℕ
 whole_line text = take (position_or_len ends_line text + 1) text
 
--- what follows so many lines
+-- what follows the first n lines
 abbrev pub after_lines : ℕ → List ℕ → List ℕ
 after_lines zero text = text
 after_lines (suc n) text = after_lines n (after_line text)
 
--- a line where it stands, an empty one where it does not, and what follows
+-- the first line if it is written, otherwise an empty one; and what follows
 abbrev pub line_if : Bool → List ℕ → List ℕ
 line_if true text = first_line text
 line_if false text = []
@@ -35,18 +35,18 @@ abbrev pub after_if : Bool → List ℕ → List ℕ
 after_if true text = after_line text
 after_if false text = text
 
--- the first word of a line, and what follows it
+-- the first word of a line, and what follows the space after it
 unfoldable pub leading_word : List ℕ → List ℕ
 leading_word line = before_first parts_words line
 
 unfoldable pub after_word : List ℕ → List ℕ
 after_word line = after_first parts_words line
 
--- the number that the digits of a word write after those of a number; other bytes are passed over
+-- the number n followed by the digits of a word; other bytes are ignored
 abbrev pub digits_after : ℕ → List ℕ → ℕ
 digits_after n [] = n
 digits_after n (b ∷ word) = if is_ascii_digit b then digits_after (n * 10 + (b - 48)) word else digits_after n word
 
--- the number that is read of a word: that which its digits write, at most the greatest of 64 bits
+-- the number that the digits of a word give, at most 2 ^ 64 - 1
 abbrev pub number_of_word : List ℕ → ℕ
 number_of_word word = min (digits_after 0 word) (2 ^ 64 - 1)

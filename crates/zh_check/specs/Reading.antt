@@ -1,4 +1,4 @@
--- What only the text of a sheet can know: what its first line says, the votes, the divisors and the seats of the lists.
+-- The values that only the text of a sheet has: those of its first line, and the votes, divisors and seats of the lists.
 use Rattle.std.specs.Prelude.{◌≡◌, ℕ, Bool, false, true, if◌then◌else◌, nat_lt}
 use Rattle.std.specs.Prelude.{List, [], ◌∷◌, ◌++◌, codes, length, map, flat_map, filter, min, slice_index}
 use Rattle.std.specs.List.{range_with_len}
@@ -17,18 +17,18 @@ use Rattle.zh_check.specs.Lines.{after_if, after_word, leading_word, line_if, nu
 use Rattle.zh_check.specs.declared.recomputed.Head.{Head}
 use Rattle.zh_check.specs.declared.recomputed.Values.{Values}
 
--- the words at those parts of a line that pass a test
+-- the words of a line at the parts that pass a test
 abbrev pub words_in : (SheetPart → Bool) → List SheetPart → List ℕ → List (List ℕ)
 words_in test [] line = []
 words_in test (part ∷ parts) line = (if test part then leading_word line ∷ [] else []) ++ words_in test parts (after_word line)
 
--- those of a text, line by line: empty ones in a line that is not there
+-- the words of a text at these parts, line by line; those of a line that is not written are empty
 abbrev pub words_at : (SheetPart → Bool) → List SheetLine → List ℕ → List (List ℕ)
 words_at test [] text = []
 words_at test (line ∷ lines) text =
     words_in test line.parts (line_if line.is_there text) ++ words_at test lines (after_if line.is_there text)
 
--- parts of one kind, of those that are read
+-- the parts that are read have the same kind
 abbrev pub is_like : SheetPart → SheetPart → Bool
 is_like Desk Desk = true
 is_like Kind Kind = true
@@ -39,16 +39,16 @@ is_like (ListVotes d g) (ListVotes e h) = true
 is_like (ListSeats d g) (ListSeats e h) = true
 is_like part other = false
 
--- the last of some values, or that before them
+-- the last of some values, or the earlier one if there are none
 abbrev pub latest : {A : Type 0} → A → List A → A
 latest before [] = before
 latest before (value ∷ values) = latest value values
 
--- at most 400 seats
+-- the number of seats in a word, at most 400
 abbrev pub seats_of_word : List ℕ → ℕ
 seats_of_word word = min (number_of_word word) 400
 
--- what a text says in its first line
+-- the values of the first line of a text
 abbrev pub head_read : Canton → List ℕ → Head
 head_read canton text = record {
   desk = latest 0 (map number_of_word (words_at (is_like Desk) (sheet_lines canton) text));
@@ -56,21 +56,21 @@ head_read canton text = record {
   accepted = latest 0 (map number_of_word (words_at (is_like Accepted) (sheet_lines canton) text));
 }
 
--- its divisors in millionths, 0 for a dash, which has no digit
+-- the divisors in a text, in millionths; a dash has no digits, so it gives 0
 abbrev pub row_divisors_read : Canton → List ℕ → List ℕ
 row_divisors_read canton text = map number_of_word (words_at (is_like (ConstituencyDivisor 0)) (sheet_lines canton) text)
 
 abbrev pub group_divisors_read : Canton → List ℕ → List ℕ
 group_divisors_read canton text = map number_of_word (words_at (is_like (GroupDivisor 0)) (sheet_lines canton) text)
 
--- the votes and the seats of the lists, constituency by constituency: none of one that does not stand
+-- the votes and the seats of the lists, by constituency and group; 0 for a list that does not stand
 abbrev pub votes_read : Canton → List ℕ → List ℕ
 votes_read canton text = map number_of_word (words_at (is_like (ListVotes 0 0)) (sheet_lines canton) text)
 
 abbrev pub seats_read : Canton → List ℕ → List ℕ
 seats_read canton text = map seats_of_word (words_at (is_like (ListSeats 0 0)) (sheet_lines canton) text)
 
--- what some words add to what is read, each with its part
+-- what some words, each at its part, add to the values that were read
 pub record AddsWords (words : (SheetPart → Bool) → List (List ℕ)) (old new : Values) : Type 0 where
   pub desk : new.head.desk ≡ latest old.head.desk (map number_of_word (words (is_like Desk)))
   pub is_final : new.head.is_final ≡ latest old.head.is_final (map (λ word. bytes_eq word (codes "final")) (words (is_like Kind)))
@@ -80,7 +80,7 @@ pub record AddsWords (words : (SheetPart → Bool) → List (List ℕ)) (old new
   pub votes : new.votes.items ≡ old.votes.items ++ map number_of_word (words (is_like (ListVotes 0 0)))
   pub seats : new.seats.items ≡ old.seats.items ++ map seats_of_word (words (is_like (ListSeats 0 0)))
 
--- all that is read
+-- all values of a text
 pub record IsRead (canton : Canton) (text : List ℕ) (read : Values) : Type 0 where
   pub desk : read.head.desk ≡ (head_read canton text).desk
   pub is_final : read.head.is_final ≡ (head_read canton text).is_final
@@ -90,22 +90,22 @@ pub record IsRead (canton : Canton) (text : List ℕ) (read : Values) : Type 0 w
   pub votes : read.votes.items ≡ votes_read canton text
   pub seats : read.seats.items ≡ seats_read canton text
 
--- the lines between the first line and the constituencies: the house, two keys, and a canton-wide quorum where there is one
+-- the lines between the first line and the constituencies: the house, two divisors of seats, and a canton-wide quorum if there is one
 abbrev pub lines_above : Canton → ℕ
 lines_above canton = option_map_or (λ _. 4) canton.canton_quorum 3
 
--- which lists stand, constituency by constituency
+-- which lists stand, by constituency and group
 abbrev pub standing : Canton → List Bool
 standing canton =
     flat_map (λ d. map (stands canton d) (range_with_len 1 (length canton.groups))) (range_with_len 1 (length canton.constituencies))
 
--- the seats of the groups with a divisor, constituency by constituency
+-- the seats of the lists of groups with a divisor, by constituency
 abbrev pub seats_in_columns : Canton → List ℕ → List ℕ → List ℕ
 seats_in_columns canton divisors seats =
     flat_map (λ d. map (λ g. slice_index seats (place_in canton d g)) (seated_groups divisors))
     (range_with_len 1 (length canton.constituencies))
 
--- the divisors that there are
+-- the divisors that are not 0
 abbrev pub column_divisors : List ℕ → List ℕ
 column_divisors divisors = filter (λ n. nat_lt 0 n) divisors
 

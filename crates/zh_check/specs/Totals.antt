@@ -1,4 +1,4 @@
--- Whether the seats of the lists of each constituency and of each group add up to what is theirs.
+-- Whether the seats of the lists of each constituency and of each group add up to its seats.
 use Rattle.std.specs.Prelude.{◌≡◌, ◌≢◌, ℕ, ◌+◌, ◌*◌, ◌<◌, ◌≤◌, ◌⊎◌, Bool, Option, MatchOption, List, length, slice_index}
 use Rattle.zh_districts.specs.Canton.{Canton}
 use Rattle.zh_districts.specs.Seats.{AreSeats, IsFirstWithout, persons}
@@ -17,31 +17,31 @@ use Rattle.zh_check.specs.Reading.{lines_above, seats_read, totals_read}
 use Rattle.zh_check.specs.declared.checked.OffTotal.{OffTotal}
 use Rattle.zh_check.specs.declared.reasons.Unmet.{Unmet}
 
--- the seats of the lists of a constituency, and of a group, both counted from 0
+-- the sum of the seats of the lists of a constituency, and of a group; both are counted from 0
 abbrev pub constituency_sum : Canton → List ℕ → ℕ → ℕ
 constituency_sum canton text d = sum_to (length canton.groups) (λ g. slice_index (seats_read canton text) (d * length canton.groups + g))
 
 abbrev pub group_sum : Canton → List ℕ → ℕ → ℕ
 group_sum canton text g = sum_to (length canton.constituencies) (λ d. slice_index (seats_read canton text) (d * length canton.groups + g))
 
--- at this place the sum is not the total, and at each before it is
+-- the sum at this place is not the total, and at each earlier place it is
 pub record IsFirstUnmet (sum : ℕ → ℕ) (totals : List ℕ) (place : ℕ) : Type 0 where
   pub there : place < length totals
   pub unmet : sum place ≢ slice_index totals place
   pub before : (k : ℕ) → k < place → sum k ≡ slice_index totals k
 
--- what is said of a total that is not met: its line, the seats of the lists, and the total
+-- the report of a total that is not met: its line, the sum of the seats, and the total
 pub record IsSaid (text : List ℕ) (before sum its_total : ℕ) (off : OffTotal) : Type 0 where
   pub line : off.line ≡ before + 1
   pub found : off.found.items ≡ first_line (after_lines before text)
   pub seats : off.seats ≡ sum
   pub total : off.total ≡ its_total
 
--- each sum is its total
+-- each sum equals its total
 abbrev pub AreMet : (ℕ → ℕ) → List ℕ → Type 0
 AreMet sum totals = (k : ℕ) → k < length totals → sum k ≡ slice_index totals k
 
--- the first sum that is not, where those lines stand after so many others
+-- the first sum that does not equal its total; the lines of the totals come after the first `before` lines
 pub record IsOffAmong (sum : ℕ → ℕ) (totals text : List ℕ) (before : ℕ) (off : OffTotal) : Type 0 where
   pub place : ℕ
   pub first : IsFirstUnmet sum totals place
@@ -56,7 +56,7 @@ pub record IsOffConstituency (canton : Canton) (text : List ℕ) (off : OffTotal
   pub follow : HaveSeats (totals_read canton text) totals
   pub first : IsOffAmong (constituency_sum canton text) totals text (1 + lines_above canton) off
 
--- those of each constituency do, and those of a group do not add up to its seats, which follow from the votes
+-- those of each constituency do, but those of a group do not add up to its seats, which follow from the votes
 pub record IsOffGroup (canton : Canton) (text : List ℕ) (off : OffTotal) : Type 0 where
   pub targets : Targets (totals_read canton text)
   pub constituencies : AreMet (constituency_sum canton text) targets.seats
@@ -65,11 +65,11 @@ pub record IsOffGroup (canton : Canton) (text : List ℕ) (off : OffTotal) : Typ
 abbrev pub IsOffTotal : Canton → List ℕ → OffTotal → Type 0
 IsOffTotal canton text off = IsOffConstituency canton text off ⊎ IsOffGroup canton text off
 
--- the seats at so many places, from one on, each so far from the one before
+-- the sum of `terms` seats: the first is at index `first`, and each of the others is `step` after the one before
 abbrev pub spaced_sum : List ℕ → ℕ → ℕ → ℕ → ℕ
 spaced_sum seats first terms step = sum_to terms (λ k. slice_index seats (first + k * step))
 
--- the first of some sums that is not its total
+-- the first sum that does not equal its total
 pub record IsUnmet (sum : ℕ → ℕ) (totals : List ℕ) (unmet : Unmet) : Type 0 where
   pub first : IsFirstUnmet sum totals unmet.place
   pub seats : unmet.seats ≡ sum unmet.place
@@ -77,26 +77,26 @@ pub record IsUnmet (sum : ℕ → ℕ) (totals : List ℕ) (unmet : Unmet) : Typ
 abbrev pub FindsUnmet : (ℕ → ℕ) → List ℕ → Option Unmet → Type 0
 FindsUnmet sum totals found = MatchOption found (AreMet sum totals) (IsUnmet sum totals)
 
--- the seats of the constituencies, each with one
+-- the seats of the constituencies, each with at least one
 pub record AreConstituencySeats (canton : Canton) (seats : List ℕ) : Type 0 where
   pub in_proportion : AreSeats canton seats
   pub each : (k : ℕ) → k < length seats → 1 ≤ slice_index seats k
 
--- a constituency gets none
+-- a constituency gets no seat
 pub record SomeGetsNone (canton : Canton) : Type 0 where
   pub seats : List ℕ
   pub in_proportion : AreSeats canton seats
   pub d : ℕ
   pub first : IsFirstWithout seats d
 
--- no seats of the constituencies follow: they are tied, or one gets none
+-- the constituencies get no seats: they are tied, or one of them gets no seat
 abbrev pub HaveNoSeats : Canton → Type 0
 HaveNoSeats canton = IsTied (persons canton) canton.house ⊎ SomeGetsNone canton
 
 abbrev pub FindsConstituencySeats : Canton → Option Apportionment → Type 0
 FindsConstituencySeats canton found = MatchOption found (HaveNoSeats canton) (λ shares. AreConstituencySeats canton shares.seats)
 
--- the seats of the groups, with what they follow from besides those of the constituencies
+-- the seats of the groups, with what they follow from apart from the seats of the constituencies
 pub record AreGroupSeats (totals : VoteTotals) (seats upper : List ℕ) : Type 0 where
   pub taking : List Bool
   pub voters : List ℕ
@@ -104,7 +104,7 @@ pub record AreGroupSeats (totals : VoteTotals) (seats upper : List ℕ) : Type 0
   pub sums : AreVoterSums totals seats voters
   pub groups : AreUpperSeats voters taking totals.canton.house upper
 
--- no seats of the groups follow, for one of the reasons
+-- the groups get no seats, for one of the reasons
 pub record HaveNoGroupSeats (totals : VoteTotals) : Type 0 where
   pub refusal : UpperRefusal
   pub refused : IsRefusedAbove totals refusal
@@ -112,20 +112,20 @@ pub record HaveNoGroupSeats (totals : VoteTotals) : Type 0 where
 abbrev pub FindsGroupSeats : VoteTotals → List ℕ → Option (List ℕ) → Type 0
 FindsGroupSeats totals seats found = MatchOption found (HaveNoGroupSeats totals) (AreGroupSeats totals seats)
 
--- the lists of each group have its seats
+-- the seats of the lists of each group add up to its seats
 pub record MeetsGroups (canton : Canton) (text seats : List ℕ) : Type 0 where
   pub upper : List ℕ
   pub follow : AreGroupSeats (totals_read canton text) seats upper
   pub met : AreMet (group_sum canton text) upper
 
--- the lists of each constituency have its seats, and those of each group too, if these follow from the votes
+-- the seats of the lists of each constituency add up to its seats, and so do those of each group if its seats follow from the votes
 pub record MeetsTotals (canton : Canton) (text : List ℕ) : Type 0 where
   pub seats : List ℕ
   pub follow : AreConstituencySeats canton seats
   pub met : AreMet (constituency_sum canton text) seats
   pub groups : ¬ AreTotals (totals_read canton text) ⊎ HaveNoGroupSeats (totals_read canton text) ⊎ MeetsGroups canton text seats
 
--- no total that follows is missed
+-- every total that follows is met
 abbrev pub IsNoneOff : Canton → List ℕ → Type 0
 IsNoneOff canton text = HaveNoSeats canton ⊎ MeetsTotals canton text
 

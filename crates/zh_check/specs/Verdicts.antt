@@ -1,4 +1,4 @@
--- When a published sheet is right, and which of its lines is wrong where it is not.
+-- When a published sheet is right, and which of its lines is wrong if it is not.
 use Rattle.std.specs.Prelude.{◌≡◌, ◌≢◌, ℕ, ◌-◌, ◌^◌, ◌≤◌, Option, Some, IfSome, List}
 use Rattle.zh_districts.specs.Canton.{Canton}
 use Rattle.zh_totals.specs.Totals.{VoteTotals}
@@ -19,7 +19,7 @@ use Rattle.zh_check.specs.declared.checked.WrongLine.{WrongLine}
 abbrev pub right_text : RightSheet → List ℕ
 right_text c = sheet_text c.sheet c.desk c.is_final c.accepted
 
--- the bytes are the text of a distribution of this set-up, of the votes that are held if there are any, for a desk from 1 to 8
+-- the bytes are the text of a distribution of this set-up, with the votes held if there are any, for a desk from 1 to 8
 pub record IsRight (canton : Canton) (held : Option VoteTotals) (bytes : List ℕ) (c : RightSheet) : Type 0 where
   pub desk : (1 ≤ c.desk) × (c.desk ≤ 8)
   pub accepted : c.accepted ≤ 2 ^ 64 - 1
@@ -28,7 +28,7 @@ pub record IsRight (canton : Canton) (held : Option VoteTotals) (bytes : List �
   pub votes : IfSome held (λ h. c.sheet.totals.votes ≡ h.votes)
   pub text : bytes ≡ right_text c
 
--- the sheet that follows from the first line, the votes, the divisors and the seats of the lists that the bytes show
+-- the sheet that follows from the first line, and the votes, divisors and seats of the lists, that the bytes show
 pub record IsRecomputed (canton : Canton) (bytes : List ℕ) (c : RightSheet) : Type 0 where
   pub votes : c.sheet.totals ≡ totals_read canton bytes
   pub lists : c.sheet.lower ≡ lists_read canton bytes
@@ -38,19 +38,19 @@ pub record IsRecomputed (canton : Canton) (bytes : List ℕ) (c : RightSheet) : 
   pub is_final : c.is_final ≡ (head_read canton bytes).is_final
   pub accepted : c.accepted ≡ (head_read canton bytes).accepted
 
--- it is found exactly where there is one
+-- it is found if and only if it exists
 pub record FindsSheet (canton : Canton) (bytes : List ℕ) (found : Option RightSheet) : Type 0 where
   pub some : IfSome found (IsRecomputed canton bytes)
   pub every : (c : RightSheet) → IsRecomputed canton bytes c → found ≡ Some c
 
--- that sheet has another text, and the line is the first that differs
+-- the text of that sheet is different, and this is the first line that differs
 pub record DiffersFromSheet (canton : Canton) (bytes : List ℕ) (wrong : WrongLine) : Type 0 where
   pub sheet : RightSheet
   pub recomputed : IsRecomputed canton bytes sheet
   pub other : bytes ≢ right_text sheet
   pub line : DiffersAt bytes (right_text sheet) (right_text sheet) wrong
 
--- right where it is found right, and else right in no way
+-- if the verdict is right, this is the right sheet; otherwise there is none
 abbrev pub IsRightExactly : Canton → Option VoteTotals → List ℕ → SheetVerdict → Type 0
 IsRightExactly canton held bytes (Right c) = IsRight canton held bytes c
 IsRightExactly canton held bytes verdict = (c : RightSheet) → ¬ IsRight canton held bytes c
@@ -59,20 +59,20 @@ IsRightExactly canton held bytes verdict = (c : RightSheet) → ¬ IsRight canto
 abbrev pub FollowsNone : Canton → List ℕ → Type 0
 FollowsNone canton bytes = (c : RightSheet) → ¬ IsRecomputed canton bytes c
 
--- why none does: of these reasons, in this order, the first that holds
+-- why no sheet follows: the first of these reasons that applies
 abbrev pub IsWhyNone : Canton → List ℕ → SheetVerdict → Type 0
 IsWhyNone canton bytes (OffList off) = IsOffList canton bytes off
 IsWhyNone canton bytes (OffTotal off) = EachFollows canton bytes × IsOffTotal canton bytes off
 IsWhyNone canton bytes NoSheet = EachFollows canton bytes × IsNoneOff canton bytes
 IsWhyNone canton bytes verdict = ⊥
 
--- the parts that are looked at first hold: each line is of its kind, and the votes are those that are held
+-- the first two parts of the check hold: the text is in the form of a sheet, and its votes are those held
 pub record PartsHold (canton : Canton) (held : Option VoteTotals) (bytes : List ℕ) : Type 0 where
   pub form : IsFormed canton bytes
   pub votes : HasHeldVotes canton held bytes
 
--- why a verdict is given: where a line is none of its kind, the first; else where other votes are held, the first list; and else
--- by the sheet that follows, or, where none does, by the first reason why
+-- the reason for a verdict: the first line that is not of its kind; otherwise the first list with other votes than those held; otherwise
+-- the sheet that follows, or the first reason why none does
 abbrev pub IsReasonOf : Canton → Option VoteTotals → List ℕ → SheetVerdict → Type 0
 IsReasonOf canton held bytes (OffForm wrong) = IsOffForm canton bytes wrong
 IsReasonOf canton held bytes (verdicts.OtherVotes other) = IsFormed canton bytes × HasOtherVotes canton held bytes other

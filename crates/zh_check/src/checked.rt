@@ -1,4 +1,4 @@
-//! The check of a sheet, and what it comes to.
+//! The check of a sheet and its verdict.
 ghost use Rattle.std.specs.Option.{option_copied};
 ghost use Rattle.std.specs.Prelude.{IfOk};
 ghost use Rattle.zh_check.specs.Verdicts.{IsReasonOf, IsRightExactly};
@@ -13,7 +13,7 @@ use zh_districts::Setup;
 use zh_sheet::Sheet;
 use zh_totals::Totals;
 
-/// A sheet that is right: its distribution, and what its first line says.
+/// A right sheet: its distribution, and the values of its first line.
 #[derive(Drop)]
 pub struct RightSheet<'s> {
     pub sheet: Sheet<'s>,
@@ -25,20 +25,20 @@ pub struct RightSheet<'s> {
 /// A line that is wrong.
 #[derive(Drop)]
 pub struct WrongLine {
-    /// Its number, from 1.
+    /// Its line number, from 1.
     pub line: u64,
-    /// The line as it stands, without its end.
+    /// The line as found, without its end.
     pub found: Vec<u8>,
     /// What it should be.
     pub should: Vec<u8>,
 }
 
-/// What the votes of a list over both of its divisors come to.
+/// The quotient of a list: its votes over the divisors of its constituency and its group.
 #[derive(Clone, Copy, Debug, PartialEq, Eq)]
 pub enum ListQuotient {
-    /// They round to this number.
+    /// It rounds to this number and is not on a half.
     RoundsTo(u128),
-    /// They lie on a half.
+    /// It is on a half.
     OnHalf,
     /// One of the divisors is missing.
     NoDivisor,
@@ -47,70 +47,73 @@ pub enum ListQuotient {
 /// A list whose seats do not follow from its votes and its divisors.
 #[derive(Drop)]
 pub struct OffList {
-    /// The number of its line, from 1.
+    /// Its line number, from 1.
     pub line: u64,
-    /// The line as it stands, without its end.
+    /// The line as found, without its end.
     pub found: Vec<u8>,
     pub votes: u64,
-    /// The divisor of its constituency in millionths, 0 where there is none.
+    /// The divisor of its constituency in millionths, 0 if there is none.
     pub row_divisor: u64,
-    /// The divisor of its group in millionths, 0 where there is none.
+    /// The divisor of its group in millionths, 0 if there is none.
     pub column_divisor: u64,
-    /// What the votes over both divisors come to.
+    /// The votes over both divisors.
     pub quotient: ListQuotient,
 }
 
-/// A constituency or a group whose lists have other seats together than it has.
+/// A constituency or a group whose lists do not add up to its seats.
 #[derive(Drop)]
 pub struct OffTotal {
-    /// The number of its line, from 1.
+    /// Its line number, from 1.
     pub line: u64,
-    /// The line as it stands, without its end.
+    /// The line as found, without its end.
     pub found: Vec<u8>,
-    /// The seats of its lists together.
+    /// The sum of the seats of its lists.
     pub seats: u32,
-    /// Its seats: those of a constituency follow from the persons, those of a group from the votes.
+    /// Its seats. Those of a constituency follow from the persons, those of a group from the votes.
     pub total: u32,
 }
 
-/// A list whose votes are not those that are held.
+/// A list whose votes differ from those held.
 #[derive(Drop)]
 pub struct OtherVotes {
-    /// The number of its line, from 1, or of that of its constituency where it does not stand.
+    /// Its line number, from 1. A list that does not stand has no line; then this is the line of its constituency.
     pub line: u64,
-    /// The line as it stands, without its end.
+    /// The line as found, without its end.
     pub found: Vec<u8>,
-    /// The votes that are held.
+    /// The votes that are held for the list.
     pub held: u64,
 }
 
-/// What a check comes to. Each reason why a sheet is wrong stands only where none before it does.
+/// The verdict of a check. A wrong sheet gets the first of these reasons that applies.
 #[derive(Drop)]
 pub enum SheetVerdict<'s> {
-    /// It is right.
+    /// The sheet is right.
     Right(RightSheet<'s>),
-    /// This is the first line that is none of its kind: what it should be has two dots for each word that only votes can give.
+    /// The first line that is not of its kind. If only CRs are wrong in the text, `should` is the line without them.
+    /// Otherwise `should` has two dots for each word that only votes can give.
     OffForm(WrongLine),
-    /// This is the first list whose votes are not those that are held.
+    /// The first list whose votes differ from those held.
     OtherVotes(OtherVotes),
-    /// A sheet follows from the votes, the divisors and the seats of the lists that it shows, and this is the first line that
-    /// differs from that sheet.
+    /// The first line that differs from the sheet that follows from the votes, the divisors and the seats of the lists
+    /// shown.
     Differs(WrongLine),
-    /// No sheet follows, and this is the first list whose seats do not follow from its votes and its divisors.
+    /// No sheet follows. This is the first list whose seats do not follow from its votes and its divisors.
     OffList(OffList),
-    /// No sheet follows, and this is the first constituency, or else the first group, whose lists have other seats together than
-    /// it has.
+    /// No sheet follows. This is the first constituency, or else the first group, whose lists do not add up to its
+    /// seats.
     OffTotal(OffTotal),
-    /// No sheet follows, though the seats of each list do and no total is known that they do not meet: no seats of the
-    /// constituencies follow from the persons, or none of the groups from the votes; there are too many votes; or a divisor is
-    /// beyond its limits, or that of a group without seats.
+    /// No sheet follows, although the seats of each list follow and all totals that are known are met. Then the
+    /// constituencies or the groups get no seats, there are too many votes, or a divisor is beyond its limits or
+    /// belongs to a group without seats.
     NoSheet,
 }
 
-/// Whether these bytes are a sheet of this set-up, and of the votes that are held, if there are any: those of this set-up.
+/// Checks whether a text is a right sheet of this set-up. If `held` is given (totals of the same set-up), the sheet's
+/// votes have to be those.
 ///
-/// It is right if some divisors within the limits give its seats with no quotient on a half, no list that does not stand has
-/// votes, and every other number follows from them: nothing is searched, and no other seats follow from any divisors.
+/// The sheet is right if its divisors are within their limits and give its seats with no quotient on a half, no list
+/// that does not stand has votes, and all its other numbers follow. Then no other seats follow from these votes,
+/// whatever the divisors. The check does not search for divisors.
 pub fn check<'s>(
     alloc: Global,
     setup: &'s Setup,

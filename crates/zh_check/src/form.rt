@@ -1,4 +1,4 @@
-//! The form of a sheet: the first line that is none of its kind.
+//! The form of a sheet, and the first line that is not of its kind.
 ghost use Rattle.std.specs.List.{list_all};
 ghost use Rattle.std.specs.Prelude.{◌≡◌, IfOk, ◌++◌, All, OnOk};
 ghost use Rattle.zh_check.specs.Form.{FindsOffForm, formed, shown_form, without_crs, line_form, part_form, parts_form, dots_for, filled};
@@ -15,7 +15,8 @@ use zh_districts::Setup;
 use zh_sheet_text::{LineParts, SheetPart, label_text, line_at, line_count, mark_after};
 use zh_text::{millionths_text, push_number};
 
-/// A text in the form of a sheet: its own words where they may stand, and else what the set-up says, or dots.
+/// A text in the form of a sheet. At each part it has what the set-up says. If only votes can give the word, it has
+/// that of the text if it is possible there, otherwise dots.
 fn formed(alloc: Global, setup: &Setup, text: &[u8]) -> Result<Vec<u8>, AllocError>
     ensures { IfOk result (λ found. found.items ≡ formed setup.now text.now) }
 {
@@ -27,7 +28,7 @@ fn formed(alloc: Global, setup: &Setup, text: &[u8]) -> Result<Vec<u8>, AllocErr
     Ok(found)
 }
 
-/// A text without each CR.
+/// The text without CRs.
 fn without_crs(alloc: Global, text: &[u8]) -> Result<Vec<u8>, AllocError>
     ensures { IfOk result (λ found. found.items ≡ without_crs text.now) }
 {
@@ -37,7 +38,8 @@ fn without_crs(alloc: Global, text: &[u8]) -> Result<Vec<u8>, AllocError>
         .collect(alloc)
 }
 
-/// What the lines of a text should be: those without each CR where they are in the form of a sheet, and else those with dots.
+/// What the lines of a text should be: those of the text without CRs if that is in the form of a sheet, otherwise those
+/// of the form with dots.
 fn shown_form(alloc: Global, setup: &Setup, text: &[u8]) -> Result<Vec<u8>, AllocError>
     ensures { IfOk result (λ found. found.items ≡ shown_form setup.now text.now) }
 {
@@ -49,7 +51,7 @@ fn shown_form(alloc: Global, setup: &Setup, text: &[u8]) -> Result<Vec<u8>, Allo
     formed(alloc, setup, &[])
 }
 
-/// The first line that is none of its kind.
+/// The first line that is not of its kind, if there is one.
 pub(crate) fn first_off_form(
     alloc: Global,
     setup: &Setup,
@@ -66,7 +68,7 @@ pub(crate) fn first_off_form(
     Ok(Some(wrong))
 }
 
-/// Puts what should stand at a part at the end of a text: what the set-up says, or the word that is found there.
+/// Appends what a part should be: what the set-up says, or the word that was found if it is possible there, or dots.
 fn push_part(
     text: &mut Vec<u8>,
     setup: &Setup,
@@ -87,7 +89,7 @@ fn push_part(
     }
 }
 
-/// Puts the form of a line at the end of a text.
+/// Appends the form of a line.
 fn push_parts(
     text: &mut Vec<u8>,
     setup: &Setup,
@@ -107,7 +109,7 @@ fn push_parts(
     Ok(())
 }
 
-/// Puts the form of the next line at the end of a text, where it is there.
+/// Appends the form of the next line, if it is written.
 pub(crate) fn push_line(
     text: &mut Vec<u8>,
     lines: &mut Lines<'_>,
@@ -124,14 +126,14 @@ pub(crate) fn push_line(
     push_parts(text, setup, line.parts(), lines.next())
 }
 
-/// Whether a word is a number as it is written: in decimal, with no zeros in front.
+/// Whether a word is a number as sheets write it: in decimal, without leading zeros.
 fn is_number(word: &[u8]) -> bool
     ensures { result ≡ is_number word.now }
 {
     word == Buffer::new().format(number_of_word(word)).as_bytes()
 }
 
-/// Whether a word is such a number from `low` to `high`.
+/// Whether a word is such a number, from `low` to `high`.
 fn is_number_from(low: u64, high: u64, word: &[u8]) -> bool
     ensures { result ≡ is_number_from low high word.now }
 {
@@ -139,21 +141,21 @@ fn is_number_from(low: u64, high: u64, word: &[u8]) -> bool
     is_number(word) && low <= number && number <= high
 }
 
-/// Whether a word is a divisor as it is written: six digits follow the point.
+/// Whether a word is a divisor as sheets write it: with six digits after the point.
 fn is_divisor(word: &[u8]) -> bool
     ensures { result ≡ is_divisor word.now }
 {
     word == millionths_text(u128::from(number_of_word(word))).as_slice()
 }
 
-/// Whether a byte is a digit, or this one.
+/// Whether a byte is a digit or `mark`.
 fn is_digit_or(mark: u8, byte: u8) -> bool
     ensures { result ≡ is_digit_or mark byte }
 {
     byte.is_ascii_digit() || byte == mark
 }
 
-/// Whether each byte of a word is a digit, or this one.
+/// Whether each byte of a word is a digit or `mark`.
 fn are_digits_or(mark: u8, word: &[u8]) -> bool
     ensures { result ≡ list_all (is_digit_or mark) word.now }
 {
@@ -165,14 +167,14 @@ fn are_digits_or(mark: u8, word: &[u8]) -> bool
     true
 }
 
-/// Whether a word is some digits, with such a byte among them or not.
+/// Whether a word is not empty and each byte of it is a digit or `mark`.
 fn is_made_of_digits(mark: u8, word: &[u8]) -> bool
     ensures { result ≡ is_made_of_digits mark word.now }
 {
     !word.is_empty() && are_digits_or(mark, word)
 }
 
-/// Whether a word may stand at a part.
+/// Whether a word is possible at a part.
 fn does_fit(part: SheetPart, word: &[u8]) -> bool
     ensures { result ≡ fits part word.now }
 {
@@ -199,7 +201,7 @@ fn does_fit(part: SheetPart, word: &[u8]) -> bool
     }
 }
 
-/// Two dots, or one in place of two: never the word itself.
+/// Dots in place of a word: two, or one if the word is two dots. So the result always differs from the word.
 fn dots_for(word: &[u8]) -> &'static [u8]
     ensures { result.now ≡ dots_for word.now }
 {
@@ -210,7 +212,7 @@ fn dots_for(word: &[u8]) -> &'static [u8]
     }
 }
 
-/// A word where it may stand at a part, and else dots.
+/// The word, if it is possible at this part, otherwise dots.
 pub(crate) fn filled(part: SheetPart, word: &[u8]) -> &[u8]
     ensures { result.now ≡ filled part word.now }
 {

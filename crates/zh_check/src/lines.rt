@@ -1,4 +1,4 @@
-//! A text line by line. What is read is compared later, so nothing is refused here.
+//! Reading a text line by line. Nothing is refused here, because what is read is compared with the text later.
 ghost use Rattle.std.specs.List.{after_first, before_first};
 ghost use Rattle.std.specs.Prelude.{◌≡◌, ◌==◌, ◌-◌, ◌^◌, ◌∷◌, ◌↔◌, [], ℕ, IfOk, IsTrue, min, position, ◌≢◌, false};
 ghost use Rattle.zh_check.specs.Differences.{DiffersAt};
@@ -9,7 +9,7 @@ use crate::checked::WrongLine;
 use std::alloc::{AllocError, Global};
 use std::marker::Model;
 
-/// What is left of a text.
+/// The rest of a text.
 #[derive(Drop)]
 pub(crate) struct Lines<'a> {
     rest: &'a [u8],
@@ -23,14 +23,14 @@ impl<'a> Model for Lines<'a> {
     ghost view = { λ lines. lines.rest.now };
 }
 
-/// The place of the first such byte.
+/// The index of the first such byte.
 fn first_place(text: &[u8], byte: u8) -> Option<usize>
     ensures { result ≡ position (λ b. b == byte) text.now }
 {
     text.iter().position(|b| *b == byte)
 }
 
-/// The bytes before the first such byte, and those after it.
+/// The bytes before the first such byte, and those after it. Without such a byte, all bytes and none.
 fn split_first(text: &[u8], byte: u8) -> (&[u8], &[u8])
     ensures before { result.0.now ≡ before_first (λ b. b == byte) text.now }
     ensures after { result.1.now ≡ after_first (λ b. b == byte) text.now }
@@ -41,7 +41,7 @@ fn split_first(text: &[u8], byte: u8) -> (&[u8], &[u8])
     }
 }
 
-/// The first line of a text with its end.
+/// The first line of a text, with its end.
 fn with_end(text: &[u8]) -> &[u8]
     ensures { result.now ≡ whole_line text.now }
 {
@@ -58,21 +58,21 @@ impl<'a> Lines<'a> {
         Lines { rest: text }
     }
 
-    /// Whether there are no more bytes.
+    /// Whether no bytes are left.
     pub fn is_empty(&self) -> bool
         ensures { IsTrue result ↔ self.now ≡ [] }
     {
         self.rest.is_empty()
     }
 
-    /// The next line with its end, which stays there.
+    /// The next line with its end. It is not consumed.
     pub fn whole_line(&self) -> &'a [u8]
         ensures { result.now ≡ whole_line self.now }
     {
         with_end(self.rest)
     }
 
-    /// The next line, without its end; an empty one where there are no more.
+    /// The next line, without its end. Past the end it is empty.
     pub fn next(&mut self) -> &'a [u8]
         ensures line { result.now ≡ first_line self.old }
         ensures rest { self.new ≡ after_line self.old }
@@ -82,7 +82,7 @@ impl<'a> Lines<'a> {
         line
     }
 
-    /// The next line where it is there, and else an empty one.
+    /// The next line if `is_there`, otherwise an empty one, and no line is consumed.
     pub fn next_if(&mut self, is_there: bool) -> &'a [u8]
         ensures line { result.now ≡ line_if is_there self.old }
         ensures rest { self.new ≡ after_if is_there self.old }
@@ -90,7 +90,7 @@ impl<'a> Lines<'a> {
         if is_there { self.next() } else { &[] }
     }
 
-    /// Goes past so many lines.
+    /// Skips `count` lines.
     pub fn skip(&mut self, count: u32)
         ensures { self.new ≡ after_lines count self.old }
     {
@@ -100,7 +100,7 @@ impl<'a> Lines<'a> {
     }
 }
 
-/// The line after so many others, without its end.
+/// The line after the first `before` lines, without its end.
 pub(crate) fn line_after(alloc: Global, text: &[u8], before: u32) -> Result<Vec<u8>, AllocError>
     ensures { IfOk result (λ line. line.items ≡ first_line (after_lines before text.now)) }
 {
@@ -109,7 +109,7 @@ pub(crate) fn line_after(alloc: Global, text: &[u8], before: u32) -> Result<Vec<
     Vec::from_slice(alloc, lines.next())
 }
 
-/// The first word of a line, and what follows it.
+/// The first word of a line, and what follows the space after it.
 pub(crate) fn split_word(line: &[u8]) -> (&[u8], &[u8])
     ensures word { result.0.now ≡ leading_word line.now }
     ensures rest { result.1.now ≡ after_word line.now }
@@ -117,7 +117,7 @@ pub(crate) fn split_word(line: &[u8]) -> (&[u8], &[u8])
     split_first(line, b' ')
 }
 
-/// A number with one digit more after it, at most the greatest of 64 bits; other bytes are passed over.
+/// The number with one more digit, at most 2^64 - 1. A byte that is not a digit leaves it unchanged.
 fn with_digit(number: u64, byte: u8) -> u64
     ensures { (value : ℕ) → number ≡ min value (2 ^ 64 - 1) → result ≡ min (digits_after value (byte ∷ [])) (2 ^ 64 - 1) }
 {
@@ -129,7 +129,7 @@ fn with_digit(number: u64, byte: u8) -> u64
         .saturating_add(u64::from(byte - b'0'))
 }
 
-/// The number that is read of a word: that which its digits write, at most the greatest of 64 bits.
+/// The number that the digits of a word give, at most 2^64 - 1. Other bytes are ignored.
 pub(crate) fn number_of_word(word: &[u8]) -> u64
     ensures { result ≡ number_of_word word.now }
 {
@@ -147,7 +147,7 @@ pub(crate) fn is_same(text: &[u8], expected: &[u8]) -> bool
     text == expected
 }
 
-/// Whether there is a line, and the other text has the same, with its end.
+/// Whether there is a line, and the other text has the same line, including its end.
 fn is_same_line(lines: &Lines<'_>, others: &Lines<'_>) -> bool
     ensures there { IsTrue result → lines.now ≢ [] }
     ensures same { IsTrue result → whole_line lines.now ≡ whole_line others.now }
@@ -156,7 +156,7 @@ fn is_same_line(lines: &Lines<'_>, others: &Lines<'_>) -> bool
     !lines.is_empty() && lines.whole_line() == others.whole_line()
 }
 
-/// The first line, with its end, in which a text differs from another. What it should be is shown as in a third one.
+/// The first line, including its end, that differs between two texts. What it should be is taken from a third text.
 pub(crate) fn first_difference(
     alloc: Global,
     text: &[u8],

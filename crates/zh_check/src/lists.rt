@@ -1,4 +1,4 @@
-//! The lists of a sheet by their places, and the first whose seats do not follow.
+//! The lists of a sheet by place, and the first one whose seats do not follow.
 ghost use Rattle.std.specs.Prelude.{◌+◌, ◌*◌, ◌^◌, ◌<◌, ◌≡◌, ◌↔◌, IfOk, IsTrue, length, ◌≤◌, false, slice_index_or};
 ghost use Rattle.zh_check.specs.Cells.{DoSeatsFollow, FindsOffList, IsOffAs, IsQuotient, shown_list};
 ghost use Rattle.zh_check.specs.Lines.{after_lines, first_line};
@@ -11,7 +11,7 @@ use crate::recomputed::Values;
 use std::alloc::{AllocError, Global};
 use zh_districts::Setup;
 
-/// What a quotient rounds to.
+/// What `votes` over `product` rounds to, unless it is on a half or `product` is 0.
 fn rounded(votes: u128, product: u128) -> ListQuotient
     requires { votes < 2 ^ 110 }
     ensures { IsQuotient votes product result }
@@ -31,8 +31,8 @@ fn rounded(votes: u128, product: u128) -> ListQuotient
     ListQuotient::OnHalf
 }
 
-/// A list as a text shows it: its votes, the divisors of its constituency and its group in millionths, 0 where there is none, and
-/// its seats.
+/// A list as a text shows it: its votes, the divisors of its constituency and of its group in millionths (0 if there is
+/// none), and its seats.
 #[derive(Clone, Copy)]
 pub(crate) struct ShownList {
     pub votes: u64,
@@ -51,7 +51,8 @@ fn quotient(list: ShownList) -> ListQuotient
     )
 }
 
-/// Whether the seats of a list follow from its votes and its divisors, of which the group's may be missing.
+/// Whether the seats of a list follow from its votes and its divisors. Without a divisor of its group it must have no
+/// seats.
 fn do_seats_follow(list: ShownList) -> bool
     ensures { IsTrue result ↔ DoSeatsFollow list }
 {
@@ -62,7 +63,7 @@ fn do_seats_follow(list: ShownList) -> bool
     }
 }
 
-/// The list whose line stands after so many others, and what its votes come to.
+/// The list on the line after the first `before` lines, with its quotient.
 fn off_list(alloc: Global, text: &[u8], before: u32, list: ShownList) -> Result<OffList, AllocError>
     ensures line { IfOk result (λ off. off.line ≡ before + 1) }
     ensures found { IfOk result (λ off. off.found.items ≡ first_line (after_lines before text.now)) }
@@ -78,7 +79,7 @@ fn off_list(alloc: Global, text: &[u8], before: u32, list: ShownList) -> Result<
     })
 }
 
-/// The list at a place, as it is read of a text.
+/// The list at a place, as it was read from a text.
 fn list_at(setup: &Setup, text: &[u8], values: &Values, place: usize) -> ShownList
     requires read { IsRead setup.now text.now values.now }
     requires there { place < length setup.now.constituencies * length setup.now.groups }
@@ -97,7 +98,7 @@ fn list_at(setup: &Setup, text: &[u8], values: &Values, place: usize) -> ShownLi
     }
 }
 
-/// The first list that stands whose seats do not follow from its votes and its divisors, as a text shows them.
+/// The first list that stands and whose seats do not follow from its votes and divisors, as a text shows them.
 pub(crate) fn first_off_list(
     alloc: Global,
     setup: &Setup,
@@ -121,7 +122,7 @@ pub(crate) fn first_off_list(
     Ok(None)
 }
 
-/// How many lines stand between the first line and the constituencies.
+/// The number of lines between the first line and the constituencies.
 pub(crate) fn lines_above(setup: &Setup) -> u32
     ensures { result ≡ lines_above setup.now }
 {
@@ -131,7 +132,7 @@ pub(crate) fn lines_above(setup: &Setup) -> u32
     }
 }
 
-/// How many lines stand before those of the lists.
+/// The number of lines before those of the lists.
 fn lines_before_lists(setup: &Setup) -> u32
     ensures count { result ≡ 1 + lines_above setup.now + length setup.now.constituencies + length setup.now.groups }
     ensures few { result ≤ 69 }
@@ -150,7 +151,8 @@ fn stands_at(setup: &Setup, place: usize) -> bool
     setup.stands(row + 1, column + 1)
 }
 
-/// How many lines stand before that of the list at a place, or before that of its constituency where it does not stand.
+/// The number of lines before that of the list at a place. If it does not stand, those before the line of its
+/// constituency.
 pub(crate) fn lines_before(setup: &Setup, place: usize) -> u32
     requires { place < length setup.now.constituencies * length setup.now.groups }
     ensures { line_of_votes setup.now place ≡ result + 1 }

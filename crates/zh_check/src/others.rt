@@ -1,4 +1,4 @@
-//! The first list whose votes are not those that are held.
+//! The first list whose votes differ from those held.
 ghost use Rattle.std.specs.Prelude.{◌≡◌, ◌≢◌, ◌+◌, ◌*◌, ◌↔◌, IfOk, IfNone, IfSome, IsTrue, length};
 ghost use Rattle.std.specs.Option.{option_copied};
 ghost use Rattle.zh_check.specs.Others.{FindsOtherVotes, IsFirstOther, IsOther, IsOtherVotes};
@@ -11,7 +11,7 @@ use std::alloc::{AllocError, Global};
 use zh_districts::Setup;
 use zh_totals::Totals;
 
-/// The place of the first of these votes that are not those held.
+/// The place of the first votes that differ from those held.
 fn first_other(votes: &[u64], held: &[u64]) -> Option<usize>
     ensures first { IfSome result (IsFirstOther votes.now held.now) }
     ensures none { IfNone result (length held.now ≡ length votes.now → votes.now ≡ held.now) }
@@ -24,7 +24,7 @@ fn first_other(votes: &[u64], held: &[u64]) -> Option<usize>
     None
 }
 
-/// What is said of the votes on the line after so many others.
+/// The report of votes that differ from those held, on the line after the first `before` lines.
 fn other_after(alloc: Global, text: &[u8], before: u32, held: u64) -> Result<OtherVotes, AllocError>
     ensures { IfOk result (IsOther text.now before held) }
 {
@@ -35,7 +35,8 @@ fn other_after(alloc: Global, text: &[u8], before: u32, held: u64) -> Result<Oth
     })
 }
 
-/// The first list whose votes are not those held. If these are not of this set-up, so that there may be none, the first line.
+/// The first list whose votes differ from those held. If there is none, as `held` can be of another set-up, the first line
+/// is reported.
 fn other_votes(
     alloc: Global,
     setup: &Setup,
@@ -53,14 +54,14 @@ fn other_votes(
     }
 }
 
-/// Whether these votes are those that are held.
+/// Whether these votes are those held.
 fn has_votes(votes: &[u64], held: &Totals<'_>) -> bool
     ensures { IsTrue result ↔ votes.now ≡ held.now.votes }
 {
     votes == held.all()
 }
 
-/// The first list whose votes, as they are read of a text, are not those that are held, if there are any.
+/// The first list whose votes, as read from a text, are not those held. Without `held` there is none.
 pub(crate) fn first_other_votes(
     alloc: Global,
     setup: &Setup,

@@ -17,7 +17,7 @@ use zh_quorum::participating;
 use zh_totals::Totals;
 use zh_upper::{Upper, UpperFault, upper, voters};
 
-/// The first constituency whose lists have other seats together than these.
+/// The first constituency whose lists do not add up to its total.
 fn first_off_constituency(
     alloc: Global,
     setup: &Setup,
@@ -38,7 +38,7 @@ fn first_off_constituency(
     Ok(Some(off))
 }
 
-/// The first group whose lists have other seats together than these.
+/// The first group whose lists do not add up to its total.
 fn first_off_group(
     alloc: Global,
     setup: &Setup,
@@ -60,7 +60,7 @@ fn first_off_group(
     Ok(Some(off))
 }
 
-/// The first total that the seats of the lists do not add up to: constituencies come before groups.
+/// The first total that the seats of the lists do not add up to. Constituencies come before groups.
 fn first_off_total(
     alloc: Global,
     setup: &Setup,
@@ -85,7 +85,7 @@ fn first_off_total(
     }
 }
 
-/// Why no sheet follows from what is read of a text, where none does.
+/// Why no sheet follows from what was read from a text, given that none does.
 pub(crate) fn why_none<'s>(
     alloc: Global,
     setup: &'s Setup,
@@ -104,14 +104,14 @@ pub(crate) fn why_none<'s>(
     }
 }
 
-/// A place where the seats of the lists are not the total.
+/// A total that the seats of the lists do not add up to: its place, and their sum.
 #[derive(Clone, Copy)]
 pub(crate) struct Unmet {
     pub place: usize,
     pub seats: u32,
 }
 
-/// The seats at so many places, from one on, each so far from the one before.
+/// The sum of `terms` seats: the first is at index `first`, and each of the others is `step` after the one before.
 fn spaced_sum(seats: &[u32], first: usize, terms: usize, step: usize) -> u32
     requires few { All (λ s. s ≤ 400) seats.now }
     requires terms { terms ≤ 32 }
@@ -125,7 +125,8 @@ fn spaced_sum(seats: &[u32], first: usize, terms: usize, step: usize) -> u32
     sum
 }
 
-/// The first of these totals that the seats of its line of a table do not add up to. The lines begin so far from one another.
+/// The first total that its seats do not add up to. Those of total k begin at index k * `between`; there are `terms` of
+/// them, each `step` after the one before.
 pub(crate) fn first_unmet(
     seats: &[u32],
     totals: &[u32],
@@ -148,7 +149,7 @@ pub(crate) fn first_unmet(
     None
 }
 
-/// What is said of a total that is not met.
+/// The report of a total that is not met, on the line after the first `before` lines.
 pub(crate) fn off_total(
     alloc: Global,
     text: &[u8],
@@ -166,7 +167,7 @@ pub(crate) fn off_total(
     })
 }
 
-/// The seats of the constituencies, where some follow from the persons.
+/// The seats of the constituencies, or `None` if the persons give them none.
 pub(crate) fn constituency_seats(alloc: Global, setup: &Setup) -> Result<Option<Shares>, AllocError>
     ensures { IfOk result (FindsConstituencySeats setup.now) }
 {
@@ -177,7 +178,7 @@ pub(crate) fn constituency_seats(alloc: Global, setup: &Setup) -> Result<Option<
     }
 }
 
-/// The seats of each group.
+/// The seats of all groups.
 fn each_seats(alloc: Global, upper: &Upper, groups: u32) -> Result<Vec<u32>, AllocError>
     requires { groups ≡ length upper.now.seats }
     ensures { IfOk result (λ seats. seats.items ≡ upper.now.seats) }
@@ -189,7 +190,7 @@ fn each_seats(alloc: Global, upper: &Upper, groups: u32) -> Result<Vec<u32>, All
     Ok(seats)
 }
 
-/// The seats of the groups that follow from votes and from the seats of the constituencies, where there are some.
+/// The seats of the groups that follow from the votes and the seats of the constituencies, or `None` if they get none.
 pub(crate) fn group_seats(
     alloc: Global,
     totals: &Totals<'_>,

@@ -1,4 +1,4 @@
-//! The sheet that follows from what only its text can know.
+//! The sheet that follows from the values that only its text has.
 ghost use Rattle.std.specs.Prelude.{◌∷◌, [], if◌then◌else◌, IfOk, OnOk, ◌≡◌, ◌≤◌, ◌↔◌, IsTrue, ◌*◌, ◌++◌, length, map, slice_index};
 ghost use Rattle.zh_check.specs.Reading.{AddsWords, IsRead, words_in, lists_read, column_divisors, seats_in_columns};
 ghost use Rattle.zh_check.specs.Verdicts.{FindsSheet, right_text};
@@ -14,10 +14,10 @@ use zh_sheet::{Sheet, given};
 use zh_sheet_text::{SheetPart, line_at, line_count, write_sheet};
 use zh_totals::Totals;
 
-/// The most seats that a list has.
+/// The most seats that a list can have.
 pub(crate) const MOST_SEATS: u64 = 400;
 
-/// What the first line says.
+/// The values of the first line.
 #[derive(Clone, Copy)]
 pub(crate) struct Head {
     pub desk: u64,
@@ -25,8 +25,8 @@ pub(crate) struct Head {
     pub accepted: u64,
 }
 
-/// What only the text can know. The divisors are in millionths, 0 for a group without; votes and seats are those of every list,
-/// constituency by constituency, none for one that does not stand.
+/// The values that only the text has. The divisors are in millionths, 0 for a group without one. Votes and seats are
+/// those of every list, by constituency and group, 0 for a list that does not stand.
 #[derive(Drop)]
 pub(crate) struct Values {
     pub head: Head,
@@ -75,7 +75,7 @@ fn read_word(values: &mut Values, part: SheetPart, word: &[u8]) -> Result<(), Al
     }
 }
 
-/// Reads a line of these parts.
+/// Reads a line that consists of these parts.
 fn read_line(values: &mut Values, parts: &[SheetPart], line: &[u8]) -> Result<(), AllocError>
     ensures { OnOk result (AddsWords (λ test. words_in test parts.now line.now) values.old values.new) }
 {
@@ -88,7 +88,7 @@ fn read_line(values: &mut Values, parts: &[SheetPart], line: &[u8]) -> Result<()
     Ok(())
 }
 
-/// Reads the text of a sheet. Of a text that is none, anything may be read.
+/// Reads the values of a sheet from its text. A text that is not a sheet can give any values.
 pub(crate) fn read(alloc: Global, setup: &Setup, text: &[u8]) -> Result<Values, AllocError>
     ensures { IfOk result (IsRead setup.now text.now) }
 {
@@ -118,7 +118,7 @@ fn is_desk(number: u64) -> bool
     number >= 1 && number <= 8
 }
 
-/// The sheet of totals with the divisors and the seats of the lists that are read of a text, where it follows.
+/// The sheet that has these totals, and the divisors and seats of lists that were read from a text, if it follows.
 fn with_lists<'s>(
     alloc: Global,
     totals: &Totals<'s>,
@@ -135,7 +135,7 @@ fn with_lists<'s>(
     given(alloc, totals, seats, rows, columns)
 }
 
-/// The sheet of the votes, the divisors and the seats of the lists that are read of a text, where it follows.
+/// The sheet that has the votes, and the divisors and seats of lists, that were read from a text, if it follows.
 pub(crate) fn recomputed<'s>(
     alloc: Global,
     setup: &'s Setup,
@@ -188,7 +188,7 @@ pub(crate) fn column_divisors(alloc: Global, divisors: &[u64]) -> Result<Vec<u64
     divisors.iter().copied().filter(|x| *x > 0).collect(alloc)
 }
 
-/// Puts the seats of a constituency's lists in the columns at the end.
+/// Appends the seats of a constituency's lists, only of groups with a divisor.
 fn push_columns(
     columns: &mut Vec<u32>,
     setup: &Setup,
@@ -213,7 +213,7 @@ fn push_columns(
     Ok(())
 }
 
-/// The seats of the groups with a divisor, constituency by constituency.
+/// The seats of the lists of groups with a divisor, by constituency.
 pub(crate) fn seats_in_columns(
     alloc: Global,
     setup: &Setup,

@@ -1,4 +1,4 @@
--- A line has one spelling, of at most 120 bytes, and a text is read in one way.
+-- A line has only one spelling, of at most 120 bytes, and a text can be read in only one way.
 use Rattle.std.proofs.Common.{◌≡◌, ℕ, ◌≤◌, ◌+◌, ◌*◌, List, [], ◌∷◌, ◌++◌, length, drop, decimal, sym, ap, ◌∙◌, refl, arith, length-append, subst, rules, tests, Result, Ok, Err}
 use Rattle.std.specs.Coded.{le_prop}
 use Rattle.std.proofs.lemmas.Fmt.{decimal_injective, decimal_digit, length-decimal-le}
@@ -18,12 +18,12 @@ use Rattle.zh_returns.specs.declared.batch.Desk.{Desk}
 use Rattle.zh_commands.proofs.SplitLemmas.{IsWord-decimal, first_word-append, split_is}
 use Rattle.zh_commands.proofs.RequestLemmas.{request_injective, request_text}
 
--- a text that is split at its first space, where it spells a line
+-- the two parts of a line's spelling that is split at its first space
 pub split_spelling : (bytes first left : List ℕ) (line : Line) → first ≡ first_word bytes → bytes ≡ first ++ left → bytes ≡ spelling line → (first ≡ decimal line.desk.number) × (left ≡ 32 ∷ request_text line.request)
 split_spelling bytes first left line is whole e =
     split_is bytes first left (decimal line.desk.number) (32 ∷ request_text line.request) is whole (IsWord-decimal line.desk.number (omega (arith, line.desk.there))) refl e
 
--- a text that begins with a desk's number
+-- a text whose first word is the number of a desk
 pub NamesDesk : (bytes first : List ℕ) (desk : Desk) → first ≡ first_word bytes → first ≡ decimal desk.number → ¬ NamesNoDesk bytes
 NamesDesk bytes first desk is word (_, (n, small, other, e)) =
     let same = decimal_injective n desk.number (omega (arith, small)) (omega (arith, desk.there)) (sym e ∙ sym is ∙ word) in
@@ -54,7 +54,7 @@ length-spelling line is =
     let digits = length-decimal-le 10 line.desk.number (omega arith) (omega (arith, line.desk.there)) (omega (arith, line.desk.there)) in
     omega (arith, digits, length-request_text line.request is, length-append (decimal line.desk.number) (32 ∷ request_text line.request))
 
--- a desk is its number
+-- desks with the same number are equal
 numbered : (n m : ℕ) (from_one : 1 ≤ n) (there : n ≤ 8) (from_one' : 1 ≤ m) (there' : m ≤ 8) → n ≡ m
     → (let a : Desk = record { number = n; from_one = from_one; there = there } in a) ≡ (record { number = m; from_one = from_one'; there = there' })
 numbered n m from_one there from_one' there' same = subst
@@ -71,7 +71,7 @@ line_same : (a b : Line) → a.desk ≡ b.desk → a.request ≡ b.request → a
 line_same a b desk request =
     ap (λ (d : Desk). let line : Line = record { desk = d; request = a.request } in line) desk ∙ ap (λ (k : Request). let line : Line = record { desk = b.desk; request = k } in line) request
 
--- lines that read alike are one
+-- lines with the same spelling are equal
 pub spelling_injective : (a b : Line) → IsRequest a.request → IsRequest b.request → spelling a ≡ spelling b → a ≡ b
 spelling_injective a b is are e =
     let own = decimal a.desk.number in
@@ -80,14 +80,14 @@ spelling_injective a b is are e =
     let number = decimal_injective a.desk.number b.desk.number (omega (arith, a.desk.there)) (omega (arith, b.desk.there)) word in
     line_same a b (desk_same a.desk b.desk number) (request_injective a.request b.request is are (ap (drop 1) rest))
 
--- a line's first word is its desk, which there is
+-- the first word of a line's spelling is the number of a desk
 pub NamesDesk-spelling : (line : Line) → ¬ NamesNoDesk (spelling line)
 NamesDesk-spelling line =
     let own = decimal line.desk.number in
     let first = first_word-append own (32 ∷ request_text line.request) (IsWord-decimal line.desk.number (omega (arith, line.desk.there))) refl in
     NamesDesk (spelling line) own line.desk (sym first) refl
 
--- a text has one reading
+-- a text has only one reading
 pub reading_same : (bytes : List ℕ) (a b : Result Line LineFault) → ParsesAs bytes a → ParsesAs bytes b → a ≡ b
 reading_same bytes (Ok a) (Ok b) x y = ap Ok (spelling_injective a b x.0 y.0 (sym x.1 ∙ y.1))
 reading_same bytes (Ok a) (Err faults.Desk) x y = absurd (NamesDesk-spelling a (subst NamesNoDesk x.1 y))
@@ -99,7 +99,7 @@ reading_same bytes (Err faults.Syntax) (Ok b) x y = absurd (x.1 b y.0 y.1)
 reading_same bytes (Err faults.Syntax) (Err faults.Desk) x y = absurd (x.0 y)
 reading_same bytes (Err faults.Syntax) (Err faults.Syntax) x y = refl
 
--- the digit of a desk and a space
+-- the digit of a desk, then a space
 desk_of-digit : (desk : ℕ) (rest : List ℕ) → IsDesk desk → desk_of ((48 + desk) ∷ 32 ∷ rest) ≡ desk
 desk_of-digit desk rest is = search (tests, rules)
 

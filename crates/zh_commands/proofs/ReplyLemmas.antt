@@ -1,4 +1,4 @@
--- Replies that read alike are one.
+-- Replies with the same bytes are equal.
 use Rattle.std.proofs.Common.{◌≡◌, ℕ, ◌<◌, ◌^◌, true, Some, None, List, [], ◌∷◌, ◌++◌, get_or, drop, decimal, sym, ap, ◌∙◌, refl, arith, rules}
 use Rattle.std.specs.Str.{bytes_eq}
 use Rattle.std.proofs.lemmas.Fmt.{decimal_is_IsNumeral, decimal_injective}
@@ -17,14 +17,14 @@ use Rattle.zh_commands.specs.declared.replies.Refusal.TheVariants as refusals
 use Rattle.zh_commands.specs.Replies.{name, answer, reply_text, IsRefusal, IsReply}
 use Rattle.zh_commands.proofs.SplitLemmas.{IsWord-decimal, first_word-append, split_is}
 
--- The bytes of two texts are compared one by one: up to the first that differs, or up to numerals. What follows is what then
--- remains to be known of these.
+-- The bytes of two texts are compared one by one, up to the first difference or up to numerals. These lemmas say what follows once numerals
+-- are reached.
 
--- numerals of the same bytes are of one number
+-- numerals with the same bytes are of the same number
 one_number : (m n : ℕ) → m < 2 ^ 64 → n < 2 ^ 64 → bytes_eq (decimal m) (decimal n) ≡ true → m ≡ n
 one_number m n small fits same = decimal_injective m n (omega (arith, small)) (omega (arith, fits)) ((bytes_eq-Decides (decimal m) (decimal n)).0 same)
 
--- numerals that a space ends, and what follows it
+-- numerals that end at a space, and what follows them
 parts_are : (m n : ℕ) (s t : List ℕ) → m < 2 ^ 64 → n < 2 ^ 64 → bytes_eq (decimal m ++ 32 ∷ s) (decimal n ++ 32 ∷ t) ≡ true → (m ≡ n) × (s ≡ t)
 parts_are m n s t small fits same =
     let text = decimal m ++ 32 ∷ s in
@@ -38,7 +38,7 @@ first_number m n s t small fits same = (parts_are m n s t small fits same).0
 second_number : (m n : ℕ) (s t : List ℕ) → m < 2 ^ 64 → n < 2 ^ 64 → bytes_eq (decimal m ++ 32 ∷ s) (decimal n ++ 32 ∷ t) ≡ true → bytes_eq s t ≡ true
 second_number m n s t small fits same = (bytes_eq-Decides s t).1 (parts_are m n s t small fits same).1
 
--- no numeral is a word that begins with a letter, above 57
+-- a numeral does not begin with a letter, that is, with a byte above 57
 no_letter : (n letter : ℕ) (text : List ℕ) → n < 2 ^ 64 → 57 < letter → bytes_eq (letter ∷ text) (decimal n) ≡ true → ⊥
 no_letter n letter text small above same =
     let is = (decimal_is_IsNumeral n small).0 in
@@ -50,12 +50,12 @@ no_number : (n letter : ℕ) (text : List ℕ) → n < 2 ^ 64 → 57 < letter �
 no_number n letter text small above same =
     no_letter n letter text small above ((bytes_eq-Decides (letter ∷ text) (decimal n)).1 (sym ((bytes_eq-Decides (decimal n) (letter ∷ text)).0 same)))
 
--- refusals of a sheet are read back from their names
+-- refusals of a sheet can be read back from their names
 sheet_same : (r s : SheetRefusal) → IsSheetRefusal r → IsSheetRefusal s → bytes_eq (refusal_name r) (refusal_name s) ≡ true → r ≡ s
 sheet_same r s is are same =
     let e : Some r ≡ Some s = sym (read_back r is) ∙ ap refusal_named ((bytes_eq-Decides (refusal_name r) (refusal_name s)).0 same) ∙ read_back s are in cc
 
--- and other names are none of theirs
+-- no other refusal has such a name
 sheet_other : (r : SheetRefusal) (other : Refusal) → IsSheetRefusal r → refusal_named (name other) ≡ None → bytes_eq (refusal_name r) (name other) ≡ true → refusals.Sheet r ≡ other
 sheet_other r other is none same =
     let e : Some r ≡ None = sym (read_back r is) ∙ ap refusal_named ((bytes_eq-Decides (refusal_name r) (name other)).0 same) ∙ none in absurd (cc)
@@ -66,7 +66,7 @@ other_sheet other r is none same =
 
 ruleset told_apart = (rules, one_number, first_number, second_number, no_letter, no_number, sheet_same, sheet_other, other_sheet)
 
--- refusals of one name are one: each is held against each
+-- refusals with the same name are equal: each case is compared with every other
 name_same : (a b : Refusal) → IsRefusal a → IsRefusal b → bytes_eq (name a) (name b) ≡ true → a ≡ b
 name_same (refusals.Judged reasons.Stale) = elim [
   | refusals.Judged reasons.Stale ↦ λ is are same. search told_apart
@@ -84,7 +84,7 @@ name_same a = elim [
   | _ ↦ λ is are same. search told_apart
 ]
 
--- and so are replies of one answer
+-- replies with the same answer are equal
 answer_same : (a b : Reply) → IsReply a → IsReply b → bytes_eq (answer a) (answer b) ≡ true → a ≡ b
 answer_same (Held j) = elim [
   | Held k ↦ λ is are same. search told_apart
@@ -95,7 +95,7 @@ answer_same a = elim [
   | _ ↦ λ is are same. search (told_apart, name_same)
 ]
 
--- replies that read alike are one reply to one desk
+-- replies with the same bytes are the same reply to the same desk
 pub reply_same : (d e : ℕ) (a b : Reply) → d < 2 ^ 8 → e < 2 ^ 8 → IsReply a → IsReply b → reply_text d a ≡ reply_text e b → (d ≡ e) × (a ≡ b)
 reply_same d e a b small fits is are same =
     let body = append_cancel_right (decimal d ++ 32 ∷ answer a) (decimal e ++ 32 ∷ answer b) (10 ∷ []) same in

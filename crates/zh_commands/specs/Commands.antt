@@ -5,7 +5,7 @@ use Rattle.zh_returns.specs.declared.batch.Desk.{Desk}
 use Rattle.zh_commands.specs.declared.lines.DeskCommand.{DeskCommand}
 use Rattle.zh_commands.specs.declared.lines.DeskCommand.TheVariants as desk_commands
 
--- as this desk gives it
+-- the command, given by this desk
 abbrev pub desk_command : Desk → DeskCommand → Command
 desk_command desk (desk_commands.Return row) = commands.Return desk.number row
 desk_command desk (desk_commands.Withdraw municipality list number) = commands.Withdraw desk.number municipality list number

@@ -7,7 +7,7 @@ use Rattle.zh_commands.specs.declared.lines.DeskCommand.TheVariants as commands
 use Rattle.zh_commands.specs.declared.lines.BatchStep.TheVariants as steps
 use Rattle.zh_commands.specs.declared.lines.DeskQuery.TheVariants as queries
 
--- a word and the numbers after it, of which one may be a replacement number
+-- a word, the numbers after it, and which of these is a replacement number, if one is
 pub record Form : Type 0 where
   pub word : List ℕ
   pub numbers : List ℕ
@@ -17,7 +17,7 @@ pub record Form : Type 0 where
 abbrev pub row_numbers : Row → List ℕ
 row_numbers row = row.municipality ∷ row.list ∷ row.number ∷ row.votes ∷ []
 
--- a row a request
+-- the form of each request
 abbrev pub form_of : Request → Form
 form_of (Command (commands.Return row)) = record { word = codes "return"; numbers = row_numbers row; replacement = Some row.number }
 form_of (Command (commands.Withdraw municipality list number)) =

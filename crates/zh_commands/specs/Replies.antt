@@ -10,7 +10,7 @@ use Rattle.zh_commands.specs.declared.replies.Reply.TheVariants.{Shows, ShowsWit
 use Rattle.zh_commands.specs.declared.replies.Refusal.{Refusal}
 use Rattle.zh_commands.specs.declared.replies.Refusal.TheVariants as refusals
 
--- the name of a judgement's reason
+-- the name of a reason
 abbrev pub reason_name : Reason → List ℕ
 reason_name reasons.Municipality = codes "municipality"
 reason_name reasons.List = codes "list"
@@ -48,11 +48,11 @@ answer (ShowsWithdrawn number) = codes "shows " ++ decimal number ++ codes " wit
 answer (LastDesk desk) = codes "last " ++ decimal desk
 answer (Refused refusal) = codes "refused " ++ name refusal
 
--- the bytes of a reply: the desk, a space, the answer, the end of the line
+-- the bytes of a reply: the desk, a space, the answer, the line end
 abbrev pub reply_text : ℕ → Reply → List ℕ
 reply_text desk reply = decimal desk ++ 32 ∷ answer reply ++ 10 ∷ []
 
--- the numbers of a refusal and of a reply fit their types
+-- the numbers in a refusal, and in a reply, fit their types
 abbrev pub IsRefusal : Refusal → Type 0
 IsRefusal (refusals.Judged (reasons.NotClosed municipality)) = municipality < 2 ^ 32
 IsRefusal (refusals.Sheet refusal) = IsSheetRefusal refusal

@@ -6,11 +6,11 @@ use Rattle.std.specs.List.{AllByRecursion, before_first}
 abbrev pub first_word : List ℕ → List ℕ
 first_word bytes = before_first (λ byte. byte == 32) bytes
 
--- the numbers have numerals of 32 bits
+-- the numbers are below 2 ^ 32
 abbrev pub AreNumerals : List ℕ → Type 0
 AreNumerals numbers = AllByRecursion (λ n. n < 2 ^ 32) numbers
 
--- the numerals, a space before each
+-- the numerals, each after a space
 abbrev pub numerals : List ℕ → List ℕ
 numerals [] = []
 numerals (n ∷ numbers) = 32 ∷ decimal n ++ numerals numbers

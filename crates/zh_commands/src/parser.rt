@@ -1,4 +1,4 @@
-//! Lines that are read.
+//! Reading lines.
 ghost use Rattle.std.specs.Prelude.{◌≡◌, ◌≢◌, ◌^◌, ◌<◌, ℕ, [], ◌∷◌, ◌++◌, MatchOption, ◌==◌, List, length, position, decimal, IfSome};
 ghost use Rattle.std.specs.Prelude.{IsSomeAnd};
 ghost use Rattle.zh_commands.specs.Forms.{form_of};
@@ -10,13 +10,13 @@ use std::str;
 use zh_returns::{Desk, Row};
 use zh_text::numeral;
 
-// The bytes that a line has at most.
+// The most bytes that a line can have.
 const LONGEST: usize = 120;
 
-/// Reads a line, without its end, as `docs/FORMATS.md`, "Lines", has it. It takes no memory.
+/// Reads a line, without its line end, as described in `docs/FORMATS.md`, "Lines". It allocates nothing.
 ///
-/// A line of more than 120 bytes is `Syntax`. Else it is `Desk` where the first word is a numeral other than 1 to 8,
-/// whatever follows, and `Syntax` where it has none of the forms of a line.
+/// A line of more than 120 bytes is `Syntax`. Otherwise the fault is `Desk` if the first word is a numeral other than 1
+/// to 8, whatever follows, and `Syntax` if the line has none of the forms of a line.
 pub fn parse_line(bytes: &[u8]) -> Result<Line, LineFault>
     ensures reads { ParsesAs bytes.now result }
 {
@@ -39,7 +39,7 @@ pub fn parse_line(bytes: &[u8]) -> Result<Line, LineFault>
     Ok(Line { desk, request })
 }
 
-// What the text after the desk and the space asks for.
+// The request in the text after the desk and the space.
 fn request_of(text: &[u8]) -> Option<Request>
     ensures { MatchOption result
         ((request : Request) → IsRequest request → text.now ≢ (form_of request).word ++ numerals (form_of request).numbers)
@@ -55,7 +55,7 @@ fn request_of(text: &[u8]) -> Option<Request>
     }
 }
 
-// The request that is this word, with no number after it.
+// The request that consists of this word, without numbers.
 fn lone_request(word: &str) -> Option<Request>
     ensures { MatchOption result ((request : Request) → (form_of request).numbers ≡ [] → word.now ≢ (form_of request).word)
         (λ request. IsRequest request × ((form_of request).numbers ≡ []) × (word.now ≡ (form_of request).word)) }
@@ -70,7 +70,7 @@ fn lone_request(word: &str) -> Option<Request>
     }
 }
 
-// The request of this word and of the numerals after it, of which there is at least one.
+// The request that consists of this word and the numerals after it, of which there is at least one.
 fn numbered_request(word: &str, text: &[u8]) -> Option<Request>
     ensures { MatchOption result
         ((request : Request) → IsRequest request → (form_of request).numbers ≢ [] → word.now ≡ (form_of request).word
@@ -107,14 +107,14 @@ fn numbered_request(word: &str, text: &[u8]) -> Option<Request>
     }
 }
 
-// The request, where nothing stands after its word.
+// The request, if nothing follows its word.
 fn alone(request: Request, text: &[u8]) -> Option<Request>
     ensures { MatchOption result (text.now ≢ []) (λ found. (found ≡ request) × (text.now ≡ [])) }
 {
     text.is_empty().then_some(request)
 }
 
-// The municipality of one numeral after a space.
+// The municipality in a text of one numeral, after a space.
 fn municipality_of(text: &[u8]) -> Option<u32>
     ensures { MatchOption result ((n : ℕ) → n < 2 ^ 32 → text.now ≢ numerals (n ∷ []))
         (λ n. (n < 2 ^ 32) × (text.now ≡ numerals (n ∷ []))) }
@@ -123,7 +123,7 @@ fn municipality_of(text: &[u8]) -> Option<u32>
     Some(municipality)
 }
 
-// The municipality, the list and the replacement number of three numerals, each after a space.
+// The municipality, the list and the replacement number in a text of three numerals, each after a space.
 fn withdrawal_of(text: &[u8]) -> Option<(u32, u32, u32)>
     ensures { MatchOption result
         ((m l n : ℕ) → IsRequest (Request.Command (DeskCommand.Withdraw m l n)) → text.now ≢ numerals (m ∷ l ∷ n ∷ []))
@@ -137,7 +137,7 @@ fn withdrawal_of(text: &[u8]) -> Option<(u32, u32, u32)>
     Some((municipality, list, number))
 }
 
-// The row of four numerals, each after a space.
+// The row in a text of four numerals, each after a space.
 fn row_of(text: &[u8]) -> Option<Row>
     ensures { MatchOption result ((row : Row) → IsRow row → text.now ≢ row_text row)
         (λ row. IsRow row × (text.now ≡ row_text row)) }
@@ -154,8 +154,8 @@ fn row_of(text: &[u8]) -> Option<Row>
     })
 }
 
-/// The desk under which a line is answered, whatever the line is: the digit where it begins with 1 to 8 and a space,
-/// else 0.
+/// The desk under which a line is answered, whether or not it can be read: the digit if the line begins with 1 to 8 and
+/// a space, otherwise 0.
 pub fn desk_of(bytes: &[u8]) -> u8
     ensures { result ≡ desk_of bytes.now }
 {
@@ -165,14 +165,14 @@ pub fn desk_of(bytes: &[u8]) -> u8
     }
 }
 
-// The place of the first space.
+// The index of the first space.
 fn first_space(bytes: &[u8]) -> Option<usize>
     ensures { result ≡ position (λ byte. byte == 32) bytes.now }
 {
     bytes.iter().position(|byte| *byte == b' ')
 }
 
-// The bytes before the first space, and the others.
+// The bytes before the first space, and the rest, which begins with that space.
 pub(crate) fn split_word(bytes: &[u8]) -> (&[u8], &[u8])
     ensures word { result.0.now ≡ first_word bytes.now }
     ensures whole { bytes.now ≡ result.0.now ++ result.1.now }
@@ -180,7 +180,7 @@ pub(crate) fn split_word(bytes: &[u8]) -> (&[u8], &[u8])
     bytes.split_at(first_space(bytes).unwrap_or(bytes.len()))
 }
 
-// What stands after a space at the front.
+// The text after a space at the front.
 pub(crate) fn after_space(text: &[u8]) -> Option<&[u8]>
     ensures { MatchOption result ((rest : List ℕ) → text.now ≢ 32 ∷ rest)
         (λ rest. text.now ≡ 32 ∷ rest.now) }
@@ -191,7 +191,7 @@ pub(crate) fn after_space(text: &[u8]) -> Option<&[u8]>
     }
 }
 
-// The number whose numeral stands after one space at the front, and the bytes after it.
+// The number in the numeral after a space at the front, and the bytes after the numeral.
 fn next_number(text: &[u8]) -> Option<(u32, &[u8])>
     ensures found { IfSome result (λ next.
         (next.0 < 2 ^ 32) × (text.now ≡ 32 ∷ decimal next.0 ++ next.1.now)) }

@@ -1,4 +1,4 @@
-//! Replies, and how they are spelled.
+//! Replies and their spelling.
 ghost use Rattle.std.specs.Prelude.{◌≡◌, ◌≤◌, [], ◌∷◌, ◌++◌, length, take};
 ghost use Rattle.zh_commands.specs.Replies.{name, reason_name, answer, reply_text};
 ghost use Rattle.zh_text.specs.Names.{ArePartsOf};
@@ -11,13 +11,13 @@ use zh_text::{Name, push, push_name, push_numbered, push_numeral};
 /// The reply to a line of a desk.
 #[derive(Clone, Copy, Debug, PartialEq, Eq)]
 pub enum Reply {
-    /// The command is stored. With it this many commands were accepted.
+    /// The command is stored. The number counts the accepted commands, this one included.
     Stored(u64),
-    /// The command says what the count holds already.
+    /// Nothing has to be stored: the count already holds what the command says, or the batch has no rows.
     Same,
-    /// The desk holds this many rows now, 0 after `open`.
+    /// The desk's batch now has this many rows; 0 after `open`.
     Held(u32),
-    /// The desk gave up this many rows.
+    /// The desk's batch was given up; it had this many rows.
     Dropped(u32),
     /// Nothing is held for the list in the municipality.
     Nothing,
@@ -25,47 +25,51 @@ pub enum Reply {
     Shows(u32, u32),
     /// The replacement number of a withdrawal.
     ShowsWithdrawn(u32),
-    /// The desk that set what is held, 1 to 8, or 0 if that is not known: it was loaded, or stored before desks were.
+    /// The desk that set what is held, 1 to 8. 0 if there is none: it was loaded, or comes from a slot of format 1,
+    /// which has no desks.
     LastDesk(u8),
-    /// Nothing was changed, for this reason.
+    /// The line is refused. The count and the batches are unchanged, and so is the disk, except after `Device`.
     Refused(Refusal),
 }
 
-/// Why a line was refused. `docs/FORMATS.md`, "Replies", has the names.
+/// Why a line is refused. `docs/FORMATS.md`, "Replies", has the names.
 #[derive(Clone, Copy, Debug, PartialEq, Eq)]
 pub enum Refusal {
-    /// The line has none of the forms.
+    /// The line has none of the forms, or more than 120 bytes; or a record to be loaded has a field that is not a
+    /// number.
     Syntax,
     /// The first word is a numeral, but not 1 to 8.
     Desk,
-    /// A command is judged so, or a row, or a question.
+    /// The count refuses a command, a row or a question, for the reason given.
     Judged(Reason),
-    /// The batch does not take the row.
+    /// The batch does not take the row, for the reason given.
     Row(RowFault),
     /// The desk has no batch.
     NoBatch,
-    /// Memory was refused.
+    /// An allocation was refused.
     Memory,
-    /// The disk failed; it may have the command or not.
+    /// The disk failed. It might contain the command or not.
     Device,
-    /// The disk failed at an earlier line.
+    /// The disk failed at an earlier line and has to be opened again.
     ReopenDisk,
-    /// No command can be counted any more, or no snapshot written.
+    /// The number of accepted commands is at its limit, 2^64 - 1, or a new snapshot is needed and the generation is at
+    /// that limit.
     Spent,
-    /// The desk has a batch already.
+    /// The desk already has a batch.
     BatchOpen,
-    /// The text that was to be loaded has not the form of docs/FORMATS.md.
+    /// The text to be loaded can't be read, or does not have the form in `docs/FORMATS.md`, "CSV".
     Csv,
-    /// There is no sheet.
+    /// There is no sheet, for the reason given.
     Sheet(SheetRefusal),
 }
 
-/// A line of at most 64 bytes, as that of a reply.
+/// A line of at most 64 bytes. A reply has no more.
 pub type ReplyLine = ArrayVec<u8, 64>;
 
-/// Writes a reply at the front of `out`, as `docs/FORMATS.md`, "Replies", has it, and gives the number of its bytes.
+/// Writes a reply to the front of `out`, as described in `docs/FORMATS.md`, "Replies", and returns the number of its
+/// bytes.
 ///
-/// The bytes after it are left to the call. It takes no memory.
+/// No clause says what is in the rest of `out`. It allocates nothing.
 pub fn write_reply(desk: u8, reply: &Reply, out: &mut [u8; 64]) -> usize
     ensures text { take result out.new ≡ reply_text desk reply.now }
     ensures short { result ≤ 64 }
@@ -79,7 +83,7 @@ pub fn write_reply(desk: u8, reply: &Reply, out: &mut [u8; 64]) -> usize
     text.len()
 }
 
-/// The same line without the desk.
+/// The line of a reply without the desk.
 pub fn answer_line(reply: &Reply) -> ReplyLine
     ensures { result.items ≡ answer reply.now ++ 10 ∷ [] }
 {
@@ -89,7 +93,7 @@ pub fn answer_line(reply: &Reply) -> ReplyLine
     line
 }
 
-// What the reply says after the desk.
+// Appends what the reply says after the desk.
 fn push_answer(text: &mut ReplyLine, reply: &Reply)
     requires { length text.old.items ≤ 4 }
     ensures answer { text.new.items ≡ text.old.items ++ answer reply.now }
@@ -120,7 +124,7 @@ fn push_answer(text: &mut ReplyLine, reply: &Reply)
     }
 }
 
-// The name of the refusal.
+// The name of a refusal.
 fn name_of(refusal: &Refusal) -> Name
     ensures { ArePartsOf (name refusal.now) result }
 {
@@ -140,7 +144,7 @@ fn name_of(refusal: &Refusal) -> Name
     }
 }
 
-// The name of a judgement's reason, likewise.
+// The name of a reason.
 fn name_of_reason(reason: &Reason) -> Name
     ensures { ArePartsOf (reason_name reason.now) result }
 {

@@ -1,4 +1,4 @@
--- The votes of a list in the totals of a count: those that are counted.
+-- The votes of a list in the totals of a count are those that are counted.
 use Rattle.std.proofs.Common.{◌≡◌, ◌∙◌, ℕ, ◌+◌, ◌-◌, ◌*◌, ◌<◌, ◌≤◌, length, get_or, map, ap, arith, mul_comm}
 use Rattle.std.proofs.lemmas.List.{length-map, get_or-map}
 use Rattle.std.specs.Prelude.{flat_map}
@@ -11,7 +11,7 @@ use Rattle.zh_totals.specs.Totals.{votes_in}
 row_wide : (f : ℕ → ℕ → ℕ) (c : ℕ) → HasWidth (λ (d : ℕ). map (f d) (numbers 1 c)) c
 row_wide f c = record { at = λ d. length-map (numbers 1 c) (f d) ∙ length-numbers 1 c }
 
--- the table of a function, at a place
+-- a value of the table of a function
 at_table : (f : ℕ → ℕ → ℕ) (rows c d g : ℕ) → d < rows → g < c →
     get_or (flat_map (λ d. map (f d) (numbers 1 c)) (numbers 1 rows)) (d * c + g) 0 ≡ f (d + 1) (g + 1)
 at_table f rows c d g row column =

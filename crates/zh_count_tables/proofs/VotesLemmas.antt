@@ -1,4 +1,4 @@
--- The text of the votes so far, from that of its table.
+-- The text of the votes so far, from the text of its table.
 use Rattle.std.proofs.Common.{List, ℕ, ◌++◌, Result, IfOk, Option, refl}
 use Rattle.std.proofs.lemmas.Result.{IfOk-weaker}
 use Rattle.std.specs.Io.KnownBytes.{Appends}

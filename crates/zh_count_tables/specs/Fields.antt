@@ -1,4 +1,4 @@
--- Tables for people with a line for each group or constituency and a column for each of some fields, and what holds of all below.
+-- Tables for people with a line for each group or constituency and one for all below them, and a column for each of some fields.
 use Rattle.std.specs.Prelude.{ℕ, ◌-◌, Bool, false, List, [], ◌∷◌, codes, decimal, slice_index, slice_index_or}
 use Rattle.zh_districts.specs.Canton.{persons_of}
 use Rattle.zh_returns.specs.Tally.{Tally}
@@ -17,7 +17,7 @@ use Rattle.zh_count_tables.specs.declared.fields.Field.{Field}
 use Rattle.zh_count_tables.specs.declared.fields.Field.TheVariants.{Name, Persons, Held, Due, Quorum, Votes, Voters, Divisor, Seats}
 use Rattle.zh_count_tables.specs.declared.returned.Region.TheVariants as regions
 
--- what stands above each; nothing above the names
+-- the heading of a column; that of the names is empty
 abbrev pub heading : Field → List ℕ
 heading Name = []
 heading Persons = codes "persons"
@@ -29,7 +29,7 @@ heading Voters = codes "voters"
 heading Divisor = codes "divisor"
 heading Seats = codes "seats"
 
--- the field in a column; the first one says what a line is of
+-- the field of a column; the first column has the names
 abbrev pub field_at : List Field → ℕ → Field
 field_at fields column = slice_index_or fields column Name
 
@@ -43,7 +43,7 @@ constituency_fields = Name ∷ Persons ∷ Votes ∷ Divisor ∷ Seats ∷ []
 abbrev pub vote_fields : List Field
 vote_fields = Name ∷ Held ∷ Due ∷ Quorum ∷ Votes ∷ []
 
--- what they say of a group and of a constituency of a sheet, with a dash for a voter sum or a divisor that there is not
+-- the cell of a group, and of a constituency, of a sheet; a dash if it has no voter sum or divisor
 abbrev pub field_of_group : Distribution → ℕ → Field → List ℕ
 field_of_group x g Name = name_of_group x.totals.canton g
 field_of_group x g Quorum = yes_or_no (takes_part x g)
@@ -61,7 +61,7 @@ field_of_constituency x d Divisor = millionths_text (constituency_divisor x d)
 field_of_constituency x d Seats = decimal (slice_index x.seats.seats (d - 1))
 field_of_constituency x d field = []
 
--- and of a group of the votes so far
+-- the cell of a group in the votes so far
 abbrev pub field_of_votes : Tally → List Bool → ℕ → Field → List ℕ
 field_of_votes tally taking g Name = name_of_group tally.canton g
 field_of_votes tally taking g Held = decimal (returned_of tally regions.Canton g).held
@@ -70,7 +70,7 @@ field_of_votes tally taking g Quorum = yes_or_no (slice_index_or taking (g - 1) 
 field_of_votes tally taking g Votes = decimal (group_votes (totals_of tally) g)
 field_of_votes tally taking g field = []
 
--- what they say of all
+-- the cell in the line for all
 abbrev pub field_of_all : VoteTotals → Field → List ℕ
 field_of_all totals Name = codes "total"
 field_of_all totals Votes = decimal (all_votes totals)

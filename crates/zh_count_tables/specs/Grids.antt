@@ -1,4 +1,4 @@
--- Tables for people (docs/FORMATS.md, "The votes so far" and "The seats"): what stands in their lines and columns.
+-- The cells of tables for people (docs/FORMATS.md, "The votes so far" and "The seats").
 use Rattle.std.specs.Prelude.{◌≡◌, ℕ, ◌+◌, Bool, List, [], ◌∷◌, ◌++◌, length, if◌then◌else◌, codes, decimal}
 use Rattle.zh_districts.specs.Canton.{stands}
 use Rattle.zh_returns.specs.Tally.{Tally}
@@ -18,7 +18,7 @@ use Rattle.zh_count_tables.specs.declared.fields.Field.{Field}
 use Rattle.zh_count_tables.specs.declared.votes.VotesOf.{VotesOf}
 use Rattle.zh_count_tables.specs.declared.votes.VotesOf.TheVariants.{Lists, Groups}
 
--- the groups of a sheet, a line each, and below them what holds of all
+-- the groups of a sheet: a line for each, and one for all below them
 abbrev pub group_cell : Distribution → TablePlace → Field → List ℕ
 group_cell x Head field = heading field
 group_cell x (At g) field = field_of_group x g field
@@ -31,7 +31,7 @@ group_grid x = record {
   cell = λ line column. group_cell x (table_place (length x.totals.canton.groups) line) (field_at group_fields column);
 }
 
--- its constituencies
+-- the constituencies of a sheet, in the same way
 abbrev pub constituency_cell : Distribution → TablePlace → Field → List ℕ
 constituency_cell x Head field = heading field
 constituency_cell x (At d) field = field_of_constituency x d field
@@ -58,7 +58,7 @@ vote_grid tally taking = record {
   cell = λ line column. vote_cell tally taking (table_place (length tally.canton.groups) line) (field_at vote_fields column);
 }
 
--- those of the lists: constituencies by groups, with totals, and a dash for a list that does not stand
+-- the votes so far of the lists: constituencies by groups, with totals, and a dash for a list that does not stand
 abbrev pub list_cell : Tally → TablePlace → TablePlace → List ℕ
 list_cell tally Head Head = []
 list_cell tally Head (At g) = name_of_group tally.canton g
@@ -78,7 +78,7 @@ list_grid tally = record {
       list_cell tally (table_place (length tally.canton.constituencies) line) (table_place (length tally.canton.groups) column);
 }
 
--- the tables of a sheet, below how its seats are marked
+-- the tables of a sheet, below their title
 abbrev pub group_table_text : Distribution → Mark → List ℕ
 group_table_text x mark = title mark ++ grid_text (group_grid x)
 
@@ -89,7 +89,7 @@ constituency_table_text x mark = title mark ++ grid_text (constituency_grid x)
 abbrev pub votes_title : ℕ → List ℕ
 votes_title accepted = codes "votes so far, " ++ decimal accepted ++ codes " commands\n"
 
--- their table: as in the records, a group takes part by a list that does, or by the quorum of the whole canton
+-- the table of the votes so far: a group takes part if one of its lists reaches its quorum, or if it reaches that of the whole canton
 abbrev pub IsVotesGrid : Tally → VotesOf → Grid → Type 0
 IsVotesGrid tally Lists grid = grid ≡ list_grid tally
 IsVotesGrid tally Groups grid = (taking : List Bool) × AreParticipating (totals_of tally) taking × (grid ≡ vote_grid tally taking)

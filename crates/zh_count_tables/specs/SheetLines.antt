@@ -1,4 +1,4 @@
--- The groups and the constituencies of a sheet as comma-separated text: what its lines say of each, with how the seats are marked.
+-- The groups and the constituencies of a sheet as comma-separated text: the values of their lines on the sheet, and the mark.
 use Rattle.std.specs.Prelude.{ℕ, ◌-◌, Option, Some, None, List, [], ◌∷◌, ◌++◌, length, slice_index, if◌then◌else◌, codes, decimal}
 use Rattle.std.specs.Option.{option_map_or}
 use Rattle.zh_divisors.specs.Shares.{Apportionment}
@@ -15,7 +15,7 @@ use Rattle.zh_sheet_text.specs.SheetText.{divisor_text}
 use Rattle.zh_sheet_text.specs.declared.mark.Mark.{Mark}
 use Rattle.zh_count_tables.specs.Votes.{yes_or_no}
 
--- what persons or voter sums are divided by, not reduced
+-- the divisor of the persons or of the voter sums, as a fraction that is not reduced
 abbrev pub shares_key : Apportionment → List ℕ
 shares_key shares = decimal shares.num ++ (codes "/" ++ decimal shares.den)
 
@@ -34,14 +34,14 @@ constituency_columns =
     codes "constituency" ∷ codes "persons" ∷ codes "seats" ∷ codes "votes" ∷ codes "divisor" ∷ codes "key" ∷ codes "kind"
     ∷ codes "commands" ∷ codes "constituency_name" ∷ []
 
--- the line of a group: whether it takes part, its votes in the whole canton, its voter sum, its seats, and its divisor if it has seats
+-- the record of a group: whether it takes part, its votes in the whole canton, its voter sum, its seats, its divisor if it has seats
 abbrev pub seats_of_group : Distribution → Mark → ℕ → List ℕ
 seats_of_group x mark g = record_text
     (decimal g ∷ yes_or_no (takes_part x g) ∷ decimal (group_votes x.totals g) ∷ option_map_or decimal (group_voters x g) []
     ∷ decimal (slice_index x.upper.seats (g - 1)) ∷ option_map_or divisor_text (group_divisor x g) [] ∷ shares_key x.upper
     ∷ kind mark ∷ decimal mark.accepted ∷ name_of_group x.totals.canton g ∷ [])
 
--- the line of a constituency: its persons and the seats that they give it, the votes there, and its divisor
+-- the record of a constituency: its persons, its seats, the votes there, its divisor
 abbrev pub seats_of_constituency : Distribution → Mark → ℕ → List ℕ
 seats_of_constituency x mark d = record_text
     (decimal d ∷ decimal (persons_of x.totals.canton d) ∷ decimal (slice_index x.seats.seats (d - 1))

@@ -1,4 +1,4 @@
--- The votes so far as comma-separated text: of each list, or of each group. Nobody needs seats for them.
+-- The votes so far as comma-separated text: of each list, or of each group. They do not depend on seats.
 use Rattle.std.specs.Prelude.{◌≡◌, ℕ, ◌-◌, Bool, false, List, [], ◌∷◌, ◌++◌, length, if◌then◌else◌, codes, decimal, slice_index_or}
 use Rattle.zh_districts.specs.Canton.{stands}
 use Rattle.zh_returns.specs.Tally.{Tally}
@@ -23,12 +23,12 @@ votes_columns Groups =
     codes "group" ∷ codes "votes" ∷ codes "all_votes" ∷ codes "reaches_quorum" ∷ codes "held" ∷ codes "due" ∷ codes "commands"
     ∷ codes "group_name" ∷ []
 
--- a yes or no, in a word
+-- `yes` or `no`
 abbrev pub yes_or_no : Bool → List ℕ
 yes_or_no holds = if holds then codes "yes" else codes "no"
 
--- the line of a group's list in a constituency: its votes, those of all lists there, whether it reaches the quorum there, and its
--- returns from there
+-- the record of a group's list in a constituency: its votes, those of all lists there, whether it reaches the quorum there, and its returns
+-- from there
 abbrev pub list_votes : Tally → (ℕ → ℕ → Bool) → ℕ → ℕ → List ℕ
 list_votes tally reaches d g = record_text
     (decimal d ∷ decimal g ∷ decimal (counted tally d g) ∷ decimal (constituency_votes (totals_of tally) d)
@@ -36,19 +36,19 @@ list_votes tally reaches d g = record_text
     ∷ decimal (returned_of tally (regions.Constituency d) g).due ∷ decimal tally.accepted
     ∷ name_of_constituency tally.canton d ∷ name_of_group tally.canton g ∷ [])
 
--- the same if the list stands
+-- the record of a list, if it stands
 abbrev pub standing_votes : Tally → (ℕ → ℕ → Bool) → ℕ → ℕ → List ℕ
 standing_votes tally reaches d g = if stands tally.canton d g then list_votes tally reaches d g else []
 
--- those of a constituency, list by list
+-- the records of a constituency, list by list
 abbrev pub votes_of_lists_in : Tally → (ℕ → ℕ → Bool) → ℕ → List ℕ
 votes_of_lists_in tally reaches d = each_to (length tally.canton.groups) (standing_votes tally reaches d)
 
--- and those of all, constituency by constituency
+-- the records of all lists, by constituency
 abbrev pub votes_of_lists : Tally → (ℕ → ℕ → Bool) → List ℕ
 votes_of_lists tally reaches = each_to (length tally.canton.constituencies) (votes_of_lists_in tally reaches)
 
--- the line of a group: its votes in the whole canton, those of all groups, whether it would take part, and its returns
+-- the record of a group: its votes in the whole canton, those of all groups, whether it would take part, and its returns
 abbrev pub votes_of_group : Tally → List Bool → ℕ → List ℕ
 votes_of_group tally taking g = record_text
     (decimal g ∷ decimal (group_votes (totals_of tally) g) ∷ decimal (all_votes (totals_of tally))
@@ -58,8 +58,8 @@ votes_of_group tally taking g = record_text
 abbrev pub votes_of_groups : Tally → List Bool → List ℕ
 votes_of_groups tally taking = each_to (length tally.canton.groups) (votes_of_group tally taking)
 
--- the lines after the names of the columns: a list reaches the quorum of its constituency; a group takes part, by a list that
--- does, or by the quorum of the whole canton
+-- the rows, without the names of the columns. A list reaches the quorum of its constituency or does not. A group takes part if one of its
+-- lists reaches it, or if the group reaches the quorum of the whole canton.
 abbrev pub AreVotesOf : Tally → VotesOf → List ℕ → Type 0
 AreVotesOf tally Lists rows =
     (reaches : ℕ → ℕ → Bool) × TellQuorums (totals_of tally) reaches × (rows ≡ votes_of_lists tally reaches)

@@ -1,4 +1,4 @@
-//! What the columns of tables for people say, and their names and sums.
+//! The columns of tables for people: their headings, their cells in the total line, and names.
 ghost use Rattle.std.specs.Prelude.{◌≡◌, ◌≤◌, length};
 ghost use Rattle.zh_count_tables.specs.Fields.{field_at, field_of_all, heading};
 ghost use Rattle.zh_record_text.specs.Names.{name_of_constituency, name_of_group};
@@ -8,7 +8,7 @@ use zh_districts::Setup;
 use zh_sheet_text::{CellText, number_cell, text_cell};
 use zh_totals::Totals;
 
-/// What a column says of a group or a constituency.
+/// A column of the line of a group or a constituency.
 #[derive(Clone, Copy)]
 pub(crate) enum Field {
     Name,
@@ -22,7 +22,7 @@ pub(crate) enum Field {
     Seats,
 }
 
-/// What stands above a column.
+/// The heading of a column. That of the names is empty.
 pub(crate) fn heading_cell(field: Field) -> CellText
     ensures { result.items ≡ heading field }
 {
@@ -39,7 +39,7 @@ pub(crate) fn heading_cell(field: Field) -> CellText
     })
 }
 
-/// What a column says of all.
+/// The cell of a column in the line for all. It is empty for columns without a sum.
 pub(crate) fn total_cell(totals: &Totals, field: Field) -> CellText
     ensures { result.items ≡ field_of_all totals.now field }
 {
@@ -51,14 +51,14 @@ pub(crate) fn total_cell(totals: &Totals, field: Field) -> CellText
     }
 }
 
-/// The field of a column, of these.
+/// The field of a column, from 0. Past the end it is the name.
 pub(crate) fn field_at(fields: &[Field], column: u32) -> Field
     ensures { result ≡ field_at fields.now column }
 {
     fields.get(column as usize).copied().unwrap_or(Field::Name)
 }
 
-/// The name of a constituency in a cell.
+/// A cell with the name of a constituency.
 pub(crate) fn constituency_cell(setup: &Setup, constituency: u32) -> CellText
     requires from_one { 1 ≤ constituency }
     requires there { constituency ≤ length setup.now.constituencies }
@@ -68,7 +68,7 @@ pub(crate) fn constituency_cell(setup: &Setup, constituency: u32) -> CellText
     text_cell(setup.constituency_name(constituency))
 }
 
-/// The name of a group in a cell.
+/// A cell with the name of a group.
 pub(crate) fn group_cell(setup: &Setup, group: u32) -> CellText
     requires from_one { 1 ≤ group }
     requires there { group ≤ length setup.now.groups }

@@ -1,4 +1,4 @@
-//! The quorum by the votes so far, and the votes that it is measured by.
+//! The quorum by the votes so far, and the sums of votes.
 
 ghost use Rattle.std.specs.Prelude.{◌≡◌, ◌≤◌, ◌*◌, ◌^◌, length};
 ghost use Rattle.zh_count_tables.specs.Quorums.{reaches_quorum};
@@ -7,7 +7,7 @@ ghost use Rattle.zh_totals.specs.Totals.{all_votes};
 
 use zh_totals::Totals;
 
-/// Whether the list of a group has votes in a constituency, and at least 5 per cent of the votes there.
+/// Whether the list of a group in a constituency has any votes, and at least 5 per cent of the votes there.
 pub(crate) fn reaches_quorum(totals: &Totals, constituency: u32, group: u32) -> bool
     requires from_one { 1 ≤ constituency }
     requires there { constituency ≤ length totals.now.canton.constituencies }

@@ -1,4 +1,4 @@
-//! How many returns of a group's lists are there, of those that are due.
+//! How many returns of a group's lists are held and due.
 
 ghost use Rattle.std.specs.Prelude.{◌≡◌, ◌≤◌, length};
 ghost use Rattle.zh_count_tables.specs.Returned.{is_due, is_held, lies_within, returned_of};
@@ -6,21 +6,21 @@ ghost use Rattle.zh_tables.specs.Progress.{one_if};
 
 use zh_returns::Count;
 
-/// The municipalities whose returns are looked at.
+/// The municipalities whose returns are counted.
 #[derive(Clone, Copy)]
 pub(crate) enum Region {
     /// All of them.
     Canton,
-    /// Those of a constituency.
+    /// Those of one constituency.
     Constituency(u32),
 }
 
-/// How many returns of a group's lists there are.
+/// The number of returns of a group's lists.
 #[derive(Clone, Copy)]
 pub(crate) struct Returned {
-    /// Those that are there, of withdrawn lists too.
+    /// Returns that are held, including withdrawals.
     pub held: u32,
-    /// Those that are due: one from each municipality where the list stands.
+    /// Returns that are due: one from each municipality where the list stands.
     pub due: u32,
 }
 
@@ -30,7 +30,7 @@ fn one_if(holds: bool) -> u32
     if holds { 1 } else { 0 }
 }
 
-/// Whether a municipality lies in a region.
+/// Whether a municipality is in a region.
 fn lies_within(count: &Count<'_>, region: Region, municipality: u32) -> bool
     requires from_one { 1 ≤ municipality }
     requires there { municipality ≤ length count.now.canton.municipalities }
@@ -42,7 +42,7 @@ fn lies_within(count: &Count<'_>, region: Region, municipality: u32) -> bool
     }
 }
 
-/// Whether a municipality lies in a region, and a return of the group's list is there.
+/// Whether a municipality is in a region and a return of the group's list from it is held.
 fn is_held(count: &Count<'_>, region: Region, group: u32, municipality: u32) -> bool
     requires from_one { 1 ≤ municipality }
     requires there { municipality ≤ length count.now.canton.municipalities }
@@ -53,7 +53,7 @@ fn is_held(count: &Count<'_>, region: Region, group: u32, municipality: u32) -> 
     lies_within(count, region, municipality) && count.entry(municipality, group).is_some()
 }
 
-/// Whether a municipality lies in a region, and a return of the group's list is due.
+/// Whether a municipality is in a region and a return of the group's list from it is due.
 fn is_due(count: &Count<'_>, region: Region, group: u32, municipality: u32) -> bool
     requires from_one { 1 ≤ municipality }
     requires there { municipality ≤ length count.now.canton.municipalities }
@@ -66,7 +66,7 @@ fn is_due(count: &Count<'_>, region: Region, group: u32, municipality: u32) -> b
         && setup.stands(setup.constituency_of(municipality), group)
 }
 
-/// How many returns of a group's lists there are in a region.
+/// The number of returns of a group's lists from a region.
 pub(crate) fn returned_of(count: &Count<'_>, region: Region, group: u32) -> Returned
     requires from_one { 1 ≤ group }
     requires there { group ≤ length count.now.canton.groups }

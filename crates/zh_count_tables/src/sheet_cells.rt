@@ -16,7 +16,7 @@ use zh_sheet_text::{
 };
 use zh_text::{push_divisor, push_divisor_or_dash, push_numeral_or_dash};
 
-/// The columns of the groups.
+/// The columns of the table of groups.
 const GROUP_FIELDS: [Field; 6] = [
     Field::Name,
     Field::Quorum,
@@ -26,7 +26,7 @@ const GROUP_FIELDS: [Field; 6] = [
     Field::Seats,
 ];
 
-/// Those of the constituencies.
+/// The columns of the table of constituencies.
 const CONSTITUENCY_FIELDS: [Field; 5] = [
     Field::Name,
     Field::Persons,
@@ -77,7 +77,7 @@ impl<'a, 's> TableCells for SheetConstituencies<'a, 's> {
     }
 }
 
-/// A divisor in millionths.
+/// A cell with a divisor, given in millionths.
 fn divisor_cell(millionths: u64) -> CellText
     ensures { result.items ≡ millionths_text millionths }
 {
@@ -86,7 +86,7 @@ fn divisor_cell(millionths: u64) -> CellText
     cell
 }
 
-/// A divisor in millionths, or a dash where there is none.
+/// A cell with a divisor, given in millionths, or with a dash if there is none.
 fn divisor_or_dash(millionths: Option<u64>) -> CellText
     ensures { result.items ≡ or_dash millionths_text millionths }
 {
@@ -95,7 +95,7 @@ fn divisor_or_dash(millionths: Option<u64>) -> CellText
     cell
 }
 
-/// A voter sum, or a dash where there is none.
+/// A cell with a voter sum, or with a dash if there is none.
 fn voters_or_dash(voters: Option<u64>) -> CellText
     ensures { result.items ≡ or_dash decimal voters }
 {
@@ -104,7 +104,7 @@ fn voters_or_dash(voters: Option<u64>) -> CellText
     cell
 }
 
-/// What a column says of a group.
+/// The cell of a group in a column.
 fn field_of_group(sheet: &Sheet<'_>, group: u32, field: Field) -> CellText
     requires from_one { 1 ≤ group }
     requires there { group ≤ length sheet.now.totals.canton.groups }
@@ -121,7 +121,7 @@ fn field_of_group(sheet: &Sheet<'_>, group: u32, field: Field) -> CellText
     }
 }
 
-/// What a column says of a constituency.
+/// The cell of a constituency in a column.
 fn field_of_constituency(sheet: &Sheet<'_>, constituency: u32, field: Field) -> CellText
     requires from_one { 1 ≤ constituency }
     requires there { constituency ≤ length sheet.now.totals.canton.constituencies }
@@ -137,7 +137,7 @@ fn field_of_constituency(sheet: &Sheet<'_>, constituency: u32, field: Field) -> 
     }
 }
 
-/// What stands in a line and a column of the groups.
+/// The cell of the table of groups in a line and a column.
 fn group_cell(sheet: &Sheet<'_>, line: TablePlace, field: Field) -> CellText
     requires { IsTablePlace (length sheet.now.totals.canton.groups) line }
     ensures { result.items ≡ group_cell sheet.now line field }
@@ -149,7 +149,7 @@ fn group_cell(sheet: &Sheet<'_>, line: TablePlace, field: Field) -> CellText
     }
 }
 
-/// What stands in a line and a column of the constituencies.
+/// The cell of the table of constituencies in a line and a column.
 fn constituency_cell(sheet: &Sheet<'_>, line: TablePlace, field: Field) -> CellText
     requires { IsTablePlace (length sheet.now.totals.canton.constituencies) line }
     ensures { result.items ≡ constituency_cell sheet.now line field }
@@ -161,14 +161,14 @@ fn constituency_cell(sheet: &Sheet<'_>, line: TablePlace, field: Field) -> CellT
     }
 }
 
-/// The groups of a sheet as a table for people, marked so: a line for each, and one for all.
+/// The groups of a sheet as a table for people, below the title: a line for each group and one for all.
 pub fn group_table(alloc: Global, sheet: &Sheet<'_>, mark: Mark) -> Result<Vec<u8>, AllocError>
     ensures { IfOk result (λ text. text.items ≡ group_table_text sheet.now mark) }
 {
     marked_table(alloc, &SheetGroups { sheet, mark }, mark)
 }
 
-/// The constituencies of a sheet, in the same way.
+/// The constituencies of a sheet as a table for people, below the title: a line for each constituency and one for all.
 pub fn constituency_table(
     alloc: Global,
     sheet: &Sheet<'_>,

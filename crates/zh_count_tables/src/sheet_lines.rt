@@ -14,7 +14,7 @@ use zh_sheet::Sheet;
 use zh_sheet_text::{Mark, millionths_or_nothing, number_or_nothing, yes_or_no};
 use zh_text::{millionths_text, push_fraction};
 
-/// What persons or voter sums are divided by, not reduced.
+/// The divisor of the persons or of the voter sums, as a fraction that is not reduced.
 fn key_text(num: u64, den: u32) -> ArrayVec<u8, 48>
     ensures { result.items ≡ decimal num ++ (codes "/" ++ decimal den) }
 {
@@ -148,8 +148,8 @@ fn write_sheet_constituency<W: Write + Drop>(
     write_record(writer, &fields)
 }
 
-/// Writes the groups of a sheet, marked so: the names of the columns, and then a record for each group. It gives the writer back.
-/// After an error a front of the text may be written.
+/// Writes the groups of a sheet with their mark: a record with the names of the columns, then one for each group.
+/// Returns the writer. On an error, a prefix of the text might have been written.
 pub fn write_groups<W: Write + Drop>(
     sheet: &Sheet<'_>,
     mark: Mark,
@@ -172,7 +172,7 @@ pub fn write_groups<W: Write + Drop>(
     write_table(&columns, &SheetGroups { sheet, mark }, writer)
 }
 
-/// Writes the constituencies of a sheet, in the same way.
+/// The same for the constituencies of a sheet.
 pub fn write_constituencies<W: Write + Drop>(
     sheet: &Sheet<'_>,
     mark: Mark,

@@ -19,7 +19,7 @@ use zh_sheet_text::{
 use zh_text::push_number;
 use zh_totals::Totals;
 
-/// The columns of the groups.
+/// The columns of the table of groups.
 const VOTE_FIELDS: [Field; 5] = [
     Field::Name,
     Field::Held,
@@ -77,7 +77,7 @@ impl<'c> TableCells for GroupRows<'c> {
     }
 }
 
-/// The votes of a list, or a dash if it does not stand.
+/// A cell with the votes of a list, or with a dash if it does not stand.
 fn votes_or_dash(count: &Count<'_>, totals: &Totals<'_>, constituency: u32, group: u32) -> CellText
     requires totals { totals.now ≡ totals_of count.now }
     requires line { IsTablePlace (length count.now.canton.constituencies) (At constituency) }
@@ -91,7 +91,7 @@ fn votes_or_dash(count: &Count<'_>, totals: &Totals<'_>, constituency: u32, grou
     }
 }
 
-/// What stands in a line and a column of the lists.
+/// The cell of the table of lists in a line and a column.
 fn list_cell(
     count: &Count<'_>,
     totals: &Totals<'_>,
@@ -124,7 +124,7 @@ fn list_cell(
     }
 }
 
-/// What a column says of a group.
+/// The cell of a group in a column.
 fn field_of_votes(
     count: &Count<'_>,
     totals: &Totals<'_>,
@@ -148,7 +148,7 @@ fn field_of_votes(
     }
 }
 
-/// What stands in a line and a column of the groups.
+/// The cell of the table of groups in a line and a column.
 fn vote_cell(
     count: &Count<'_>,
     totals: &Totals<'_>,
@@ -168,7 +168,7 @@ fn vote_cell(
     }
 }
 
-/// Puts the line above the votes so far.
+/// Appends the title: the line above the votes so far.
 fn push_votes_title(out: &mut Vec<u8>, accepted: u64) -> Result<(), AllocError>
     ensures { OnOk result (out.new.items ≡ out.old.items ++ votes_title accepted) }
 {
@@ -178,7 +178,7 @@ fn push_votes_title(out: &mut Vec<u8>, accepted: u64) -> Result<(), AllocError>
     Ok(())
 }
 
-/// A table of the votes so far, below that line.
+/// A table of the votes so far, below its title.
 fn titled<T: TableCells>(alloc: Global, accepted: u64, cells: &T) -> Result<Vec<u8>, AllocError>
     requires { T.AreCells cells.now }
     ensures { IfOk result (λ text. text.items ≡ votes_title accepted ++ grid_text (T.grid cells.now)) }
@@ -189,8 +189,8 @@ fn titled<T: TableCells>(alloc: Global, accepted: u64, cells: &T) -> Result<Vec<
     Ok(out)
 }
 
-/// The votes so far as a table for people, by a count and its totals: of the lists constituencies by groups, and of the groups a
-/// line for each.
+/// The votes so far as a table for people, from a count and its totals. For the lists it has a line for each
+/// constituency and a column for each group; for the groups it has a line for each.
 pub fn votes_table(
     alloc: Global,
     count: &Count<'_>,

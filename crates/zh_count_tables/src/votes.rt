@@ -19,12 +19,12 @@ use zh_returns::Count;
 use zh_sheet_text::yes_or_no;
 use zh_totals::Totals;
 
-/// What the votes are shown of.
+/// What the rows of the votes so far are.
 #[derive(Clone, Copy, Debug, PartialEq, Eq)]
 pub enum VotesOf {
-    /// Of each list that stands.
+    /// The lists that stand.
     Lists,
-    /// Of each group, in the whole canton.
+    /// The groups, in the whole canton.
     Groups,
 }
 
@@ -61,7 +61,7 @@ impl<'c, W: Write + Drop> NumberedRows<W> for ListsIn<'c> {
     }
 }
 
-/// The lists that stand, constituency by constituency.
+/// The lists that stand, by constituency.
 #[derive(Drop)]
 pub(crate) struct ListRows<'c> {
     pub(crate) count: &'c Count<'c>,
@@ -94,7 +94,7 @@ impl<'c, W: Write + Drop> NumberedRows<W> for ListRows<'c> {
     }
 }
 
-/// The groups, with whether each would take part.
+/// The groups, and whether each would take part in the apportionment.
 #[derive(Drop)]
 pub(crate) struct GroupRows<'c> {
     pub(crate) count: &'c Count<'c>,
@@ -202,8 +202,9 @@ fn write_group<W: Write + Drop>(
     write_record(writer, &fields)
 }
 
-/// Writes the votes so far, by a count and its totals: the names of the columns, and then a record for each list that stands, or
-/// for each group, in order. It gives the writer back. After an error a front of the text may be written.
+/// Writes the votes so far, from a count and its totals: a record with the names of the columns, then one for each list
+/// that stands, or for each group, in order. Returns the writer. On an error, a prefix of the text might have been
+/// written.
 pub fn write_votes<W: Write + Drop>(
     alloc: Global,
     count: &Count<'_>,

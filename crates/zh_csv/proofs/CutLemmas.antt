@@ -1,4 +1,4 @@
--- The records of the front of a text are those of the text, or the last of them is a part of one that is too long.
+-- The records of the front of a text are those of the text, or the last one is part of a record that is too long.
 use Rattle.std.proofs.Common.{◌≡◌, ◌≤◌, ◌<◌, ◌+◌, ◌*◌, ◌⊎◌, inl, inr, ℕ, suc, List, [], ◌∷◌, ◌++◌, length}
 use Rattle.std.proofs.Common.{length-append, get_or, All, Some, None, refl, sym, ap, ◌∙◌, subst, arith}
 use Rattle.csv.specs.Machine.{Read, next_record}
@@ -12,14 +12,14 @@ use Rattle.zh_csv.proofs.FrontLemmas.{strip_front}
 use Rattle.zh_csv.proofs.StepLemmas.{read_next, front_between, Stands}
 use Rattle.zh_csv.proofs.NextLemmas.{IsFront, next_between}
 
--- the first records of the front are the first of the text
+-- the records of the front are the first records of the text
 record AreKept (most : ℕ) (records : List Record) (state end : State) (text rest : List ℕ) : Type 0 where
   left : List ℕ
   is : rest ≡ front_between most left
   reached : Reached default_config state text records end left
   stands : Stands points.Between end
 
--- or the last is a part of one
+-- the last record of the front is only part of the text's record, and both are too long
 record AreCut (limit : ℕ) (records : List Record) (state : State) (text : List ℕ) : Type 0 where
   few : List Record
   part : Record
@@ -31,11 +31,11 @@ record AreCut (limit : ℕ) (records : List Record) (state : State) (text : List
   long : limit < record_size part
   longer : limit < record_size last
 
--- the first records of a front
+-- these records are read from the front of a text
 abbrev IsReached : ℕ → List Record → State → State → List ℕ → List ℕ → Type 0
 IsReached most records state end text rest = Reached default_config state (front_between most text) records end rest
 
--- they are kept, or cut
+-- the records of the front are kept, or the last one is cut
 abbrev AreKeptOrCut : ℕ → ℕ → List Record → State → State → List ℕ → List ℕ → Type 0
 AreKeptOrCut limit most records state end text rest = AreKept most records state end text rest ⊎ AreCut limit records state text
 
@@ -108,7 +108,7 @@ module _ (limit most : ℕ) (some : 0 < limit) (three : most ≡ 3 * limit) wher
           none : records ≡ []
           none = ended records end rest (subst (λ (r : Read). Reached default_config r.1 r.2 records end rest) same more)
 
-  -- where the front has ended after records that are kept, the text has too
+  -- if the front ends after records that are kept, so does the text
   none_front : (text : List ℕ) (state : State) → Stands points.Between state
       → read_next state [] [] (front_between most text) ≡ None → read_next state [] [] text ≡ None
   none_front text state stands none = by (next_between limit most some three text state stands)
@@ -119,7 +119,7 @@ module _ (limit most : ℕ) (some : 0 < limit) (three : most ≡ 3 * limit) wher
       by (inr (inl kept)) = let wrong : None ≡ Some (kept.fields, kept.state, front_between most kept.rest) = sym none ∙ kept.part_is in cc wrong
       by (inr (inr cut)) = let wrong : None ≡ Some (cut.fields, states.StartRecord, []) = sym none ∙ cut.part_is in cc wrong
 
-  -- where no record of a text is too long, all of it is read
+  -- if no record of a text is too long, all of it is read
   reached_whole : (records : List Record) (state end : State) (text rest : List ℕ) → Stands points.Between state
       → AreShortOf limit records → Reached default_config state text records end rest
       → Stands points.Between end × IsReached most records state end text (front_between most rest)
@@ -154,7 +154,7 @@ module _ (limit most : ℕ) (some : 0 < limit) (three : most ≡ 3 * limit) wher
       by (inr (inl kept)) = let wrong : None ≡ Some (kept.fields, kept.state, kept.rest) = sym none ∙ kept.whole_is in cc wrong
       by (inr (inr cut)) = let wrong : None ≡ Some cut.read = sym none ∙ cut.whole_is in cc wrong
 
--- the last of these records is a part of one of a text, both too long
+-- the last of these records is part of a record of a text, and both are too long
 pub record EndsInPart (text : List ℕ) (records : List Record) : Type 0 where
   pub few : List Record
   pub part : Record
@@ -169,7 +169,7 @@ at_end [] y = refl
 at_end (x ∷ xs) y = at_end xs y
 
 module _ (text : List ℕ) (records : List Record) where
-  -- the records are reached from the start of this
+  -- these records are reached from the start of this text
   abbrev AreReachedIn : State → List ℕ → List ℕ → Type 0
   AreReachedIn state rest start = Reached default_config states.StartRecord start records state rest
 
@@ -177,7 +177,7 @@ module _ (text : List ℕ) (records : List Record) where
       → AreReachedIn state rest (front_between most_read (strip_bom text))
   between state rest reached = subst (AreReachedIn state rest) (strip_front most_read text (omega arith)) reached
 
-  -- those of the front, kept or cut
+  -- the records of the front are kept, or the last one is cut
   front_reached : (state : State) (rest : List ℕ) → AreReachedIn state rest (strip_bom (front_of text))
       → AreKeptOrCut most_bytes most_read records states.StartRecord state (strip_bom text) rest
   front_reached state rest reached =
@@ -224,7 +224,7 @@ module _ (text : List ℕ) (records : List Record) where
         none_whole most_bytes most_read (omega arith) refl rest state stands none,
       )
 
-  -- and if those of what is read are, that is all
+  -- if the records of the front are short, they are all records of the text
   pub all_whole : AreShort → AreAll (front_of text) records → AreAll text records
   all_whole short all = by (all_of_front all)
     where

@@ -11,11 +11,11 @@ use Rattle.zh_returns.specs.declared.entry.Entry.{Entry}
 use Rattle.zh_csv.specs.Records.{Record, names}
 use Rattle.zh_csv.specs.Export.{following, line, votes_field, record_of}
 
--- fields, two at least, none of which calls for quotes
+-- at least two fields, and none of them needs quotes
 abbrev pub ArePlain : Record → Type 0
 ArePlain fields = (2 ≤ length fields) × All (λ field. needs_quotes default_writer field ≡ false) fields
 
--- a digit calls for no quotes
+-- a digit needs no quotes
 digit_plain : (byte : ℕ) → IsInRange 48 57 byte → needs_byte default_writer byte ≡ false
 digit_plain byte digit = grind (arith, nat_tests)
 
@@ -30,7 +30,7 @@ votes_plain : (votes : Option ℕ) → IfSome votes (λ n. n < 2 ^ 32) → needs
 votes_plain None small = refl
 votes_plain (Some n) small = decimal_plain n (omega (arith, small))
 
--- four fields that are plain
+-- four fields that need no quotes
 pub four_plain : (a b c d : List ℕ) → needs_quotes default_writer a ≡ false → needs_quotes default_writer b ≡ false → needs_quotes default_writer c ≡ false → needs_quotes default_writer d ≡ false → ArePlain (a ∷ b ∷ c ∷ d ∷ [])
 four_plain a b c d p q r s = (omega arith, each)
   where
@@ -48,14 +48,14 @@ record_plain municipality list entry m l n v =
 pub names_plain : ArePlain names
 names_plain = four_plain _ _ _ _ refl refl refl refl
 
--- fields after the first
+-- the fields after the first
 following_text : (fields : Record) → All (λ field. needs_quotes default_writer field ≡ false) fields → fields_text default_writer fields ++ 10 ∷ [] ≡ following fields
 unfolding fields_text
 following_text [] plain = refl
 following_text (field ∷ fields) plain =
     rw (plain 0 field (omega arith)) (ap (λ (l : List ℕ). 44 ∷ l) (append_assoc field (fields_text default_writer fields) (10 ∷ []) ∙ ap (λ (l : List ℕ). field ++ l) (following_text fields (λ i x within. plain (suc i) x (omega arith)))))
 
--- what `csv` writes for a plain record is its line
+-- what `csv` writes for a record that needs no quotes is its line
 pub row_text-plain : (fields : Record) → ArePlain fields → row_text default_writer fields ≡ line fields
 unfolding is_blank
 row_text-plain [] (two, plain) = absurd (omega arith)
@@ -63,6 +63,6 @@ row_text-plain (a ∷ []) (two, plain) = absurd (omega arith)
 row_text-plain (a ∷ b ∷ fields) (two, plain) =
     rw (plain 0 a (omega arith)) (append_assoc a (fields_text default_writer (b ∷ fields)) (10 ∷ []) ∙ ap (λ (l : List ℕ). a ++ l) (following_text (b ∷ fields) (λ i x within. plain (suc i) x (omega arith))))
 
--- what `csv` writes for fields that are those of a plain record is the line of that record
+-- the same for a record that is given as four fields
 pub plain_record : (a b c d x y z w : List ℕ) → a ≡ x → b ≡ y → c ≡ z → d ≡ w → ArePlain (x ∷ y ∷ z ∷ w ∷ []) → record_text (a ∷ b ∷ c ∷ d ∷ []) ≡ line (x ∷ y ∷ z ∷ w ∷ [])
 plain_record a b c d x y z w e f g h plain = ap record_text (λ i. e i ∷ f i ∷ g i ∷ h i ∷ []) ∙ row_text-plain (x ∷ y ∷ z ∷ w ∷ []) plain

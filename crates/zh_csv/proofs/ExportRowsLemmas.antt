@@ -1,4 +1,4 @@
--- The rows of a count, and the records of its export, which are those of these rows.
+-- The rows of a count; the records of its export are those of these rows.
 use Rattle.std.proofs.Common.{◌≡◌, ◌∙◌, ℕ, suc, List, [], ◌∷◌, ◌++◌, map, length, Option, Some, None, refl, sym, ap, subst, arith, All}
 use Rattle.std.specs.List.{flat_map, range_with_len}
 use Rattle.std.proofs.lemmas.List.{append-nil, map-append}
@@ -15,7 +15,7 @@ use Rattle.zh_csv.proofs.ExportLemmas.{ArePlain, row_text-plain, record_plain, n
 use Rattle.zh_csv.specs.declared.held_sums.HeldRow.{HeldRow}
 use Rattle.zh_csv.specs.Rows.{held_fields, held_entry, IsHeldRow}
 
--- the row of what is held under a key
+-- the row of an entry
 abbrev pub entry_row : ℕ → ℕ → Entry → HeldRow
 entry_row m l entry = record { municipality = m; list = l; number = entry.number; votes = entry.votes }
 
@@ -26,15 +26,15 @@ entry_rows m l (Some entry) = entry_row m l entry ∷ []
 abbrev pub list_rows : Tally → ℕ → ℕ → List HeldRow
 list_rows tally m l = entry_rows m l (held tally m l)
 
--- those of a municipality, list by list
+-- the rows of a municipality, list by list
 abbrev pub municipality_rows : Tally → ℕ → List HeldRow
 municipality_rows tally m = flat_map (list_rows tally m) (range_with_len 1 (length tally.canton.groups))
 
--- all rows of a count, municipality by municipality
+-- all rows of a count, by municipality
 abbrev pub export_rows : Tally → List HeldRow
 export_rows tally = flat_map (municipality_rows tally) (range_with_len 1 (length tally.canton.municipalities))
 
--- the lines of rows
+-- the lines of these rows
 abbrev pub lines_of : List HeldRow → List ℕ
 lines_of rows = flat_map line (map held_fields rows)
 
@@ -42,7 +42,7 @@ entry_lines : (m l : ℕ) (entry : Option Entry) → entry_text m l entry ≡ li
 entry_lines m l None = refl
 entry_lines m l (Some entry) = sym (append-nil (line (held_fields (entry_row m l entry))))
 
--- the texts of numbers, one after the other, are the lines of their rows
+-- the texts of numbers, one after another, are the lines of their rows
 all_lines : (text : ℕ → List ℕ) (rows : ℕ → List HeldRow) (ns : List ℕ) → ((n : ℕ) → text n ≡ lines_of (rows n)) → flat_map text ns ≡ lines_of (flat_map rows ns)
 all_lines text rows [] each = refl
 all_lines text rows (n ∷ ns) each =
@@ -78,7 +78,7 @@ rows_read (row ∷ rows) readable = (
   rows_read rows (λ i x within. readable (suc i) x (omega arith)),
 )
 
--- the names, and then these rows
+-- the text of the names and of these rows
 names_and : (rows : List HeldRow) → All IsHeldRow rows → AreAll (line names ++ lines_of rows) (names ∷ map held_fields rows)
 unfolding Reached strip_bom next_record
 names_and rows readable = (

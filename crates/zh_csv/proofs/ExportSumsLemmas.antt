@@ -25,7 +25,7 @@ use Rattle.zh_csv.proofs.SumLemmas.{Follows, change_of, held_more, is_noted}
 use Rattle.zh_csv.proofs.RunningLemmas.{key_more}
 use Rattle.zh_csv.proofs.ExportRowsLemmas.{entry_row, entry_rows, list_rows, municipality_rows, export_rows, export_records}
 
--- these rows are what is held before a key
+-- these rows are what is held at keys before this one
 record AreBefore (tally : Tally) (m l : ℕ) (rows : List HeldRow) : Type 0 where
   held : AreHeld tally.canton rows
   keys : (a b : ℕ) → is_before m l (a, b) ≡ false → holds_key rows (a, b) ≡ false
@@ -39,7 +39,7 @@ none_before tally limits = record {
   totals = ap totals_of (sym (before_first tally limits));
 }
 
--- the entry under a key, within the limits of a count
+-- the entry at a key is within the limits of a count
 record IsEntryAt (tally : Tally) (m l : ℕ) (entry : Entry) : Type 0 where
   there : has_municipality tally.canton m ≡ true
   standing : stands tally.canton (constituency_of tally.canton m) l ≡ true
@@ -78,7 +78,7 @@ row_fit : (tally : Tally) (m l : ℕ) (entry : Entry) → IsEntryAt tally m l en
 row_fit tally m l entry is =
     ap (λ place. unfit_at place (unwrap_or entry.votes 0)) (not_misplaced tally.canton m l is.there is.standing) ∙ few_fit (unwrap_or entry.votes 0) (no_more_votes entry.votes is.within.votes)
 
--- a key itself, and one after it, do not come before it
+-- neither a key itself nor a later one comes before it
 not_itself : (m l : ℕ) → is_before m l (m, l) ≡ false
 not_itself m l = grind (arith, nat_tests)
 
@@ -88,7 +88,7 @@ not_after m l a b later = (grind (arith, nat_tests), grind (arith, nat_tests))
 not_in_next : (m g a b : ℕ) → is_before (m + 1) 1 (a, b) ≡ false → is_before m (g + 1) (a, b) ≡ false
 not_in_next m g a b later = grind (arith, nat_tests)
 
--- the next list: something is held under its key, or nothing is
+-- the next list has an entry, or has none
 one_more : (tally : Tally) (m l : ℕ) (rows : List HeldRow) (entry : Entry) → IsTally tally → held tally m l ≡ Some entry
     → AreBefore tally m l rows → AreBefore tally m (l + 1) (rows ++ entry_row m l entry ∷ [])
 one_more tally m l rows entry limits is before =
@@ -124,7 +124,7 @@ next_list tally m l rows limits before =
       | (Some entry) ↦ λ is. one_more tally m l rows entry limits is before
     ] refl
 
--- so many lists from one on
+-- the next n lists
 next_lists : (tally : Tally) (m first n : ℕ) (rows : List HeldRow) → IsTally tally → AreBefore tally m first rows
     → AreBefore tally m (first + n) (rows ++ flat_map (list_rows tally m) (range_with_len first n))
 next_lists tally m first zero rows limits before =
@@ -147,7 +147,7 @@ next_one tally m rows limits before =
       totals = all.totals ∙ ap totals_of (next_municipality tally m limits);
     }
 
--- so many municipalities from one on
+-- the next n municipalities
 next_some : (tally : Tally) (first n : ℕ) (rows : List HeldRow) → IsTally tally → AreBefore tally first 1 rows
     → AreBefore tally (first + n) 1 (rows ++ flat_map (municipality_rows tally) (range_with_len first n))
 next_some tally first zero rows limits before =
@@ -164,7 +164,7 @@ all_rows tally limits =
     let same : 1 + n ≡ n + 1 = omega arith in
     subst (λ (m : ℕ). AreBefore tally m 1 (export_rows tally)) same (next_some tally 1 n [] limits (none_before tally limits))
 
--- the export of a count
+-- the export of a count adds up to its totals
 pub export_adds_up : (tally : Tally) → IsTally tally → AreHeldIn tally.canton (export_text tally) (record { rows = length (export_rows tally); totals = totals_of tally })
 export_adds_up tally limits =
     let all = all_rows tally limits in

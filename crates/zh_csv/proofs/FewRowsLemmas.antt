@@ -1,4 +1,4 @@
--- No more rows than places.
+-- There are at most as many rows as places for keys.
 use Rattle.std.proofs.Common.{◌≡◌, ◌∙◌, ◌≤◌, ◌<◌, ◌+◌, ◌-◌, ◌*◌, ℕ, suc, true, false, eqb, List, [], ◌∷◌, map, length, None, All, sym, ap, arith, inl, inr}
 use Rattle.std.specs.List.{list_any, AllByRecursion, IsDistinct}
 use Rattle.std.specs.Ordering.{eq_by_cmp}
@@ -14,11 +14,11 @@ use Rattle.zh_csv.specs.declared.held_sums.HeldRow.{HeldRow}
 use Rattle.zh_csv.specs.Rows.{held_key, as_row, IsHeldRow, AreHeld}
 use Rattle.zh_csv.proofs.SumLemmas.{is_placed}
 
--- the place of a key
+-- the place of a row's key
 place_of : HeldRow → ℕ
 place_of row = (row.municipality - 1) * 32 + (row.list - 1)
 
--- numbers from 1 on, of 512 municipalities and 32 lists
+-- municipality 1 to 512, list 1 to 32
 record IsWithin (row : HeldRow) : Type 0 where
   municipality : (1 ≤ row.municipality) × (row.municipality ≤ 512)
   list : (1 ≤ row.list) × (row.list ≤ 32)
@@ -30,7 +30,7 @@ is_within canton row limits readable fit =
     let (l1, l2) = list_within canton _ row.list is.standing in
     record { municipality = (m1, omega (arith, limits.municipalities.1)); list = (l1, omega (arith, limits.groups.1)) }
 
--- rows of one place have one key
+-- rows with the same place have the same key
 one_key : (row other : HeldRow) → IsWithin row → IsWithin other → place_of row ≡ place_of other → eq_by_cmp key_cmp (held_key row) (held_key other) ≡ true
 unfolding place_of
 one_key row other w v same =

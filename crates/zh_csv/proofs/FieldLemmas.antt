@@ -6,14 +6,14 @@ use Rattle.std.specs.Option.{IsSome}
 use Rattle.csv.specs.Records.{field_at}
 use Rattle.zh_csv.specs.Records.{Record}
 
--- a record has a field at each place below its length
+-- a record has a field at each index below its length
 pub field_at-get_or : (all : Record) (place : ℕ) → place < length all → field_at all place ≡ Some (get_or all place [])
 unfolding field_at
 field_at-get_or [] place within = absurd (omega arith)
 field_at-get_or (first ∷ all) zero within = refl
 field_at-get_or (first ∷ all) (suc place) within = field_at-get_or all place (omega arith)
 
--- a value that was found, and what it is
+-- if mapping an option gives a value, the option has one
 pub value_some : {A B : Type 0} (o : Option A) (f : A → B) (y : B) → option_map f o ≡ Some y → IsSome o
 value_some None f y e = cc e
 value_some (Some x) f y e = search rules
@@ -22,11 +22,11 @@ pub value_is : {A B : Type 0} (o : Option A) (f : A → B) (x : A) (y : B) → o
 value_is None f x y is e = cc is
 value_is (Some z) f x y is e = let same : z ≡ x = cc is in let value : f z ≡ y = cc e in ap f (sym same) ∙ value
 
--- a number has ten digits at most
+-- a number below 2 ^ 32 has at most ten digits
 pub numeral_short : (n : ℕ) → n < 2 ^ 32 → length (decimal n) ≤ 10
 numeral_short n small = length-decimal-le 10 n (omega arith) (omega arith) (omega arith)
 
--- numerals in one place of one record are of one number
+-- numerals at the same place in equal records are of the same number
 pub one_numeral : (all other : Record) (place n m : ℕ) → n < 2 ^ 32 → m < 2 ^ 32 → get_or all place [] ≡ decimal n → get_or other place [] ≡ decimal m → all ≡ other → n ≡ m
 one_numeral all other place n m small few is that same =
     decimal_injective n m (omega (arith, small)) (omega (arith, few)) (sym is ∙ ap (λ (r : Record). get_or r place []) same ∙ that)

@@ -10,14 +10,14 @@ use Rattle.zh_csv.specs.Front.{point_after, front, left_at}
 use Rattle.zh_csv.specs.declared.front_reader.Point.{Point}
 use Rattle.zh_csv.specs.declared.front_reader.Point.TheVariants as points
 
--- where no byte more is read
+-- no more bytes are read
 pub front_none : (most : ℕ) (point : Point) (left : ℕ) (text : List ℕ) → left ≡ 0 → front most point left text ≡ []
 unfolding front
 front_none most point left [] none = refl
 front_none most point zero (byte ∷ text) none = refl
 front_none most point (suc left) (byte ∷ text) none = absurd (omega arith)
 
--- a byte that is read
+-- one byte is read
 pub front_first : (most : ℕ) (point : Point) (left byte : ℕ) (text : List ℕ) → 0 < left
     → front most point left (byte ∷ text) ≡ byte ∷ front most (point_after point byte) (left_at most (point_after point byte) (left - 1)) text
 unfolding front
@@ -26,7 +26,7 @@ front_first most point (suc left) byte text some =
     let less : left ≡ suc left - 1 = omega arith in
     ap (λ (n : ℕ). byte ∷ front most (point_after point byte) (left_at most (point_after point byte) n) text) less
 
--- points that a byte leads to the same point
+-- states that a byte leads to the same state
 same_first : (most left byte : ℕ) (text : List ℕ) (p q : Point) → point_after p byte ≡ point_after q byte → front most p left (byte ∷ text) ≡ front most q left (byte ∷ text)
 unfolding front
 same_first most zero byte text p q same = refl
@@ -62,7 +62,7 @@ unmarked most left a b c text other = by left (a == 239) refl
         let here = ap (λ (l : List ℕ). 239 ∷ l) (second most n b c text others) in
         subst (λ (x : ℕ). front most points.Start (suc n) (x ∷ b ∷ c ∷ text) ≡ front most points.Between (suc n) (x ∷ b ∷ c ∷ text)) (sym a_is) here
 
--- so of a short one
+-- the same for a text of one byte
 strip_one : (most left a : ℕ) → 0 < left → strip_bom (front most points.Start left (a ∷ [])) ≡ front most points.Between left (a ∷ [])
 unfolding front strip_bom
 strip_one most zero a some = absurd (omega arith)
@@ -78,7 +78,7 @@ left_some most left points.Plain some more = more
 left_some most left points.Quoted some more = more
 left_some most left points.Closed some more = more
 
--- the last byte of a text is read where one is
+-- the last byte of a text is read if at least one more byte is allowed
 front_last : (most : ℕ) (point : Point) (left byte : ℕ) → 0 < left → front most point left (byte ∷ []) ≡ byte ∷ []
 unfolding front
 front_last most point zero byte some = absurd (omega arith)
@@ -99,7 +99,7 @@ left_much most left least points.Plain much more = more
 left_much most left least points.Quoted much more = more
 left_much most left least points.Closed much more = more
 
--- of a longer one three bytes at least are read
+-- of a text of three bytes or more at least three are read
 front_three : (most left a b c : ℕ) (text : List ℕ) (point : Point) → 3 ≤ left → 3 ≤ most
     → (rest : List ℕ) × (front most point left (a ∷ b ∷ c ∷ text) ≡ a ∷ b ∷ c ∷ rest)
 front_three most left a b c text point some much =
@@ -122,7 +122,7 @@ strip_gone : (a b c : ℕ) (text : List ℕ) → is_bom a b c ≡ true → strip
 unfolding strip_bom
 strip_gone a b c text marked = rw marked refl
 
--- a byte order mark is read, and what comes after it is read as from between two records
+-- a byte order mark is read, and what follows it is read as from between two records
 marked : (most a b c : ℕ) (text : List ℕ) → 3 ≤ most → is_bom a b c ≡ true
     → front most points.Start most (a ∷ b ∷ c ∷ text) ≡ a ∷ b ∷ c ∷ front most points.Between most text
 unfolding front
@@ -146,7 +146,7 @@ marked most a b c text much mark = by most much
     by : (n : ℕ) → 3 ≤ n → front most points.Start n (a ∷ b ∷ c ∷ text) ≡ a ∷ b ∷ c ∷ front most points.Between most text
     by n some = rw (a_is, b_is, c_is) (at_mark n some)
 
--- what the reader of records, which passes over a byte order mark, reads of the front
+-- what the CSV reader, which skips a byte order mark, reads of the front
 pub strip_front : (most : ℕ) (text : List ℕ) → 3 ≤ most → strip_bom (front most points.Start most text) ≡ front most points.Between most (strip_bom text)
 unfolding strip_bom front
 strip_front most [] much = refl
@@ -162,7 +162,7 @@ strip_front most (a ∷ b ∷ c ∷ text) much = by (is_bom a b c) refl
         let (rest, is) = front_three most most a b c text points.Between much much in
         ap strip_bom (unmarked most most a b c text other ∙ is) ∙ strip_same a b c rest other ∙ sym is ∙ ap (front most points.Between most) (sym (strip_same a b c text other))
 
--- the bytes that are passed, and one more
+-- the bytes that are passed so far, and one more
 pub pass_more : (most : ℕ) (p point : Point) (begun left place : ℕ) (bytes rest : List ℕ) → place < length bytes → 0 < left
     → front most p begun (bytes ++ rest) ≡ take place bytes ++ front most point left (drop place bytes ++ rest)
     → front most p begun (bytes ++ rest)
@@ -176,7 +176,7 @@ pass_more most p point begun left place bytes rest within some before =
     before ∙ ap (λ (l : List ℕ). take place bytes ++ l) next ∙ sym (append_assoc (take place bytes) (byte ∷ []) after_it)
     ∙ ap (λ (l : List ℕ). l ++ after_it) (sym (take_more bytes place 0 within))
 
--- what a read gives of the front, by what it gives of the text
+-- what a read consumes of the front, given what it consumes of the text
 pub consumes_front : (most : ℕ) (p q : Point) (m n count passed : ℕ) (old new : Option (List ℕ)) (buffer : List ℕ) → Consumes old new (take count buffer) → passed ≤ count
     → ((rest : List ℕ) → front most p m (take count buffer ++ rest) ≡ take passed (take count buffer) ++ front most q n rest)
     → Consumes (option_map (front most p m) old) (option_map (front most q n) new) (take passed buffer)
@@ -185,7 +185,7 @@ consumes_front most p q m n count passed (Some xs) None buffer consumes within p
 consumes_front most p q m n count passed (Some xs) (Some ys) buffer consumes within passes =
     ap (front most p m) consumes ∙ passes ys ∙ ap (λ (l : List ℕ). l ++ front most q n ys) (take-take passed count buffer (omega arith))
 
--- nothing is passed only where there is nothing, or no room for it
+-- if the buffer has room, no byte is passed only if there is none
 pub none_passed : (n count room passed : ℕ) → n ≡ min count room → (0 < n → 0 < passed) → passed ≡ 0 → 0 < room → count ≡ 0
 none_passed zero count room passed is some none more = omega arith
 none_passed (suc n) count room passed is some none more = absurd (omega (arith, some (omega arith)))

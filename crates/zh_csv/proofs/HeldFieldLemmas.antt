@@ -9,7 +9,7 @@ use Rattle.zh_csv.proofs.FieldLemmas.{one_numeral}
 use Rattle.zh_csv.specs.declared.held_sums.HeldRow.{HeldRow}
 use Rattle.zh_csv.specs.Rows.{held_fields, IsHeldRow}
 
--- no numeral is a word
+-- a numeral is not the word `withdrawn`
 numeral_or_word : (n : ℕ) → n < 2 ^ 64 → decimal n ≡ codes "withdrawn" → ⊥
 numeral_or_word n small is =
     let numeral = (decimal_is_IsNumeral n small).0 in
@@ -18,14 +18,14 @@ numeral_or_word n small is =
     let wrong : IsInRange 48 57 119 = subst (IsInRange 48 57) first digit in
     absurd (omega (arith, wrong.1))
 
--- a field of votes says them
+-- a field of votes determines the votes
 pub votes_once : (a b : Option ℕ) → IfSome a (λ n. n < 2 ^ 32) → IfSome b (λ n. n < 2 ^ 32) → votes_field a ≡ votes_field b → a ≡ b
 votes_once None None x y same = refl
 votes_once None (Some n) x y same = absurd (numeral_or_word n (omega (arith, y)) (sym same))
 votes_once (Some m) None x y same = absurd (numeral_or_word m (omega (arith, x)) same)
 votes_once (Some m) (Some n) x y same = ap (λ (k : ℕ). Some k) (decimal_injective m n (omega (arith, x)) (omega (arith, y)) same)
 
--- so the row of a record is one
+-- a record determines its row
 pub same_row : (row other : HeldRow) → IsHeldRow row → IsHeldRow other → held_fields row ≡ held_fields other → row ≡ other
 same_row row other r o same =
     let m = one_numeral (held_fields row) (held_fields other) 0 row.municipality other.municipality r.municipality o.municipality refl refl same in

@@ -1,4 +1,4 @@
--- The rows of an export are a kind of row, and a text has its sums in one way, refused memory and a reader that fails aside.
+-- The rows of an export are a kind of row. A text determines its sums, unless memory is refused or the reader fails.
 use Rattle.std.proofs.Common.{◌≡◌, ◌≤◌, ◌<◌, ◌^◌, ℕ, false, true, List, ◌∷◌, ◌++◌, length, Option, Some, None, IfSome}
 use Rattle.std.proofs.Common.{Result, Ok, Err, refl, sym, ap, ◌∙◌, arith, decimal}
 use Rattle.zh_districts.specs.Canton.{Canton}
@@ -17,7 +17,7 @@ use Rattle.zh_csv.specs.Rows.{held_key, held_fields, as_row, holds_key, IsHeldRo
 use Rattle.zh_csv.specs.Held.{row_fault, holding, AddsUp, AreHeldIn}
 use Rattle.zh_csv.proofs.HeldFieldLemmas.{same_row}
 
--- the record of a row may be one
+-- the record of a row is short enough
 votes_short : (votes : Option ℕ) → IfSome votes (λ n. n < 2 ^ 32) → length (votes_field votes) ≤ 10
 votes_short None small = omega arith
 votes_short (Some n) small = numeral_short n small
@@ -34,7 +34,7 @@ no_fault canton rows row others are =
     let own : holds_key rows (held_key row) ≡ false = own_key held_key rows row others are.keys in
     rw fit (rw own refl)
 
--- so these rows are a kind
+-- these rows are a kind
 is_holding : (canton : Canton) → IsKind (holding canton)
 is_holding canton = record {
   may = may;
@@ -43,7 +43,7 @@ is_holding canton = record {
   follows = no_fault canton;
 }
 
--- what the sums of the front of a text are, those of the text are
+-- the sums of the front of a text are those of the text
 pub adds_up_of_front : (canton : Canton) (text : List ℕ) (held : Result HeldSums LoadFault) → AddsUp canton (front_of text) held → AddsUp canton text held
 adds_up_of_front canton text (Ok sums) is = record {
   rows = is.rows;

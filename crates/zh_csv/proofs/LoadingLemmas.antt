@@ -1,4 +1,4 @@
--- The rows that a text loads are a kind of row, and a text loads in one way, refused memory and a reader that fails aside.
+-- The rows that a text loads are a kind of row. A text determines what it loads, unless memory is refused or the reader fails.
 use Rattle.std.proofs.Common.{◌≡◌, ◌≤◌, ◌<◌, ℕ, nat_le, true, false, List, [], ◌∷◌, ◌++◌, map, length, None, Result, Ok, Err, refl, arith, All, length-append, decimal}
 use Rattle.std.proofs.lemmas.Bool.Decides.{nat_tests}
 use Rattle.std.proofs.lemmas.List.Elements.{All-push}
@@ -16,7 +16,7 @@ use Rattle.zh_csv.proofs.FieldLemmas.{numeral_short, one_numeral}
 use Rattle.zh_csv.proofs.ReadingLemmas.{IsKind, four_short, refused_by_front, rows_of_front}
 use Rattle.zh_csv.proofs.OneReadingLemmas.{among_all, long, one_reading, own_key}
 
--- the row of a record is one
+-- a record determines its row
 same_row : (row other : Row) → IsReadable row → IsReadable other → fields row ≡ fields other → row ≡ other
 same_row row other r o same =
     let m = one_numeral (fields row) (fields other) 0 row.municipality other.municipality r.municipality o.municipality refl refl same in
@@ -31,7 +31,7 @@ readable row is = record { municipality = omega (arith, is.municipality); list =
 all_readable : (canton : Canton) (rows : List Row) → AreLoaded canton rows → All IsReadable rows
 all_readable canton rows are i row within = readable _ (are.are_rows.speakable i row within)
 
--- its record may be that of a row
+-- the record of a row can be that of a row
 pub may_be : (row : Row) → IsReadable row → may_be_row (fields row) ≡ true
 may_be row is =
     four_short (decimal row.municipality) (decimal row.list) (decimal row.number) (decimal row.votes)
@@ -51,7 +51,7 @@ module _ (canton : Canton) (rows : List Row) (row : Row) (others : List Row) (ar
   pub no_fault : fault_after canton rows row ≡ None
   no_fault = let own : has_key rows (row_key row) ≡ false = own_key row_key rows row others are.are_rows.keys in rw is_fit (rw (own, room) refl)
 
--- so these rows are a kind
+-- these rows are a kind
 pub is_loading : (canton : Canton) → IsKind (loading canton)
 is_loading canton = record {
   may = may_be;
@@ -60,7 +60,7 @@ is_loading canton = record {
   follows = no_fault canton;
 }
 
--- what the front of a text loads, the text does
+-- what the front of a text loads is what the text loads
 pub loads_of_front : (canton : Canton) (text : List ℕ) (loaded : Result (List Row) LoadFault) → Loads canton (front_of text) loaded → Loads canton text loaded
 loads_of_front canton text (Ok rows) (all, are) = (rows_of_front (loading canton) (is_loading canton) text rows are all, are)
 loads_of_front canton text (Err fault) refused = refused_by_front (loading canton) (is_loading canton) text fault refused
@@ -71,11 +71,11 @@ one_loading canton text =
     one_reading (loading canton) (is_loading canton) text (Loads canton text) (λ rows loads. (rows, loads.0, loads.1))
     (λ rows more x y same. same) (λ fault refused. refused)
 
--- the record at which a text stops comes after 1,000 rows at most
+-- a text is refused for a record after at most 1,000 rows
 pub few_records : (canton : Canton) (text : List ℕ) (fault : LoadFault) (stops : StopsAt (loading canton) text fault) → length (names ∷ (map fields stops.rows ++ stops.last ∷ [])) ≤ 1002
 few_records canton text fault stops = omega (arith, long fields stops.rows stops.last, stops.held.are_rows.most)
 
--- a row more
+-- one more row
 pub loaded_more : (canton : Canton) (rows : List Row) (row : Row) → AreLoaded canton rows
     → unfit canton row ≡ None → fault_in rows row ≡ None → IsSpeakableRow row → AreLoaded canton (rows ++ row ∷ [])
 loaded_more canton rows row are fit none speakable =

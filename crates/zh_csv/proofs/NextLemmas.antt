@@ -1,4 +1,4 @@
--- The next record of the front of a text is that of the text, or a part of one that is too long.
+-- The next record of the front of a text is that of the text, or part of one that is too long.
 use Rattle.std.proofs.Common.{◌≡◌, ◌≢◌, ◌≤◌, ◌<◌, ◌+◌, ◌*◌, ◌⊎◌, inl, inr, ℕ, zero, suc, List, [], ◌∷◌, ◌++◌}
 use Rattle.std.proofs.Common.{Option, Some, None, Bool, true, false, refl, ap, subst, arith}
 use Rattle.csv.specs.Machine.{Read, ends_at_end, is_end, next_record, step}
@@ -12,7 +12,7 @@ use Rattle.zh_csv.specs.declared.front_reader.Point.TheVariants as points
 use Rattle.zh_csv.proofs.StepLemmas.{state_after, action_at, record_after, part_after, read_next, front_between, Stands, marks, Counts, size_push, steps}
 use Rattle.zh_csv.proofs.StepLemmas.{inside_ends, goes_on, StepsTo}
 
--- a record of the front of a text is one of the text, which goes on after it
+-- the next record of the front is that of the text, and the text continues after it
 pub record IsWhole (most : ℕ) (part whole : Option Read) : Type 0 where
   pub fields : Record
   pub state : State
@@ -21,7 +21,7 @@ pub record IsWhole (most : ℕ) (part whole : Option Read) : Type 0 where
   pub whole_is : whole ≡ Some (fields, state, rest)
   pub stands : Stands points.Between state
 
--- or it is a part of one, both too long, after which nothing is read
+-- the next record of the front is part of the text's, both are too long, and nothing more is read
 pub record IsCut (limit : ℕ) (part whole : Option Read) : Type 0 where
   pub fields : Record
   pub part_is : part ≡ Some (fields, states.StartRecord, [])
@@ -33,11 +33,11 @@ pub record IsCut (limit : ℕ) (part whole : Option Read) : Type 0 where
 abbrev pub IsFront : ℕ → ℕ → Option Read → Option Read → Type 0
 IsFront limit most part whole = ((part ≡ None) × (whole ≡ None)) ⊎ (IsWhole most part whole ⊎ IsCut limit part whole)
 
--- between two records nothing is read of one, and all may be
+-- between two records nothing of the next record has been read, and all of its limit is left
 abbrev IsFresh : ℕ → Point → ℕ → Record → List ℕ → Type 0
 IsFresh most point left fields field = point ≡ points.Between → (fields ≡ []) × (field ≡ []) × (left ≡ most)
 
--- what is read next of the front of a text, and of the text
+-- the next record of the front of a text, compared with that of the text
 abbrev IsFrontOf : ℕ → ℕ → ℕ → Point → State → Record → List ℕ → List ℕ → Type 0
 IsFrontOf limit most left point state fields field text =
     IsFront limit most (read_next state fields field (front most point left text)) (read_next state fields field text)
@@ -101,7 +101,7 @@ module _ (limit most : ℕ) (some : 0 < limit) (three : most ≡ 3 * limit) wher
           λ at. let fresh_at = next.fresh e at in (fresh_at.1, fresh_at.2, ap (λ (p : Point). left_at most p left) at) in
           rw e (later next.stands fresh' (next.counts e))
 
-  -- from between two records
+  -- the same from between two records
   pub next_between : (text : List ℕ) (state : State) → Stands points.Between state
       → IsFront limit most (read_next state [] [] (front_between most text)) (read_next state [] [] text)
   next_between text state stands = next_of_front text most points.Between state [] [] stands (λ _. (refl, refl, refl)) (omega arith)

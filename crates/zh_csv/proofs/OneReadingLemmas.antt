@@ -1,4 +1,4 @@
--- A text is read in one way, refused memory and a reader that fails aside.
+-- A text can be read in only one way, unless memory is refused or the reader fails.
 use Rattle.std.proofs.Common.{◌≡◌, ◌≤◌, ◌<◌, ◌+◌, ◌⊎◌, inl, inr, ℕ, suc, true, false, List, [], ◌∷◌, ◌++◌, map, length}
 use Rattle.std.proofs.Common.{get_or, Some, None, Result, Ok, Err, refl, sym, ap, ◌∙◌, subst, arith, All, length-append}
 use Rattle.std.specs.List.{list_any, IsDistinct}
@@ -15,13 +15,13 @@ use Rattle.zh_csv.specs.declared.batch_reader.LoadFault.TheVariants as faults
 use Rattle.zh_csv.proofs.RecordsLemmas.{first_more, all_first, all_once, none_after}
 use Rattle.zh_csv.proofs.ReadingLemmas.{IsKind}
 
--- what all elements of a list are, each is
+-- what holds for all elements of a list holds for each
 pub among_all : {X : Type 0} (P : X → Type 0) (rows : List X) (row : X) (others : List X) → All P (rows ++ row ∷ others) → P row
 among_all P rows row others all =
     let there = all (length rows) row (omega (arith, length-append rows (row ∷ others))) in
     subst P (get_or-append_seam rows row others row) there
 
--- where no two have one key, none before an element has its key
+-- if no two elements have the same key, no element before this one has its key
 pub own_key : {X : Type 0} (key_of : X → ℕ × ℕ) (rows : List X) (row : X) (others : List X)
     → IsDistinct (eq_by_cmp key_cmp) (map key_of (rows ++ row ∷ others))
     → list_any (eq_by_cmp key_cmp (key_of row)) (map key_of rows) ≡ false
@@ -35,7 +35,7 @@ own_key key_of rows row others keys =
     subst (λ (key : ℕ × ℕ). list_any (eq_by_cmp key_cmp key) before ≡ false) (get_or-append_seam before (key_of row) (map key_of others) (0, 0))
     (subst (λ (keys : List (ℕ × ℕ)). list_any (eq_by_cmp key_cmp its_key) keys ≡ false) (take-append_seam before after) fresh)
 
--- how many records decide
+-- the number of records up to the one that is refused
 pub long : {X : Type 0} (fields : X → Record) (rows : List X) (last : Record) → length (names ∷ (map fields rows ++ last ∷ [])) ≡ length rows + 2
 long fields rows last = omega (arith, length-append (map fields rows) (last ∷ []), length-map rows fields)
 
@@ -52,25 +52,25 @@ module _ {X : Type 0} (kind : RowKind X) (is_kind : IsKind kind) where
   abbrev AllReadable : List X → Type 0
   AllReadable rows = All kind.IsReadable rows
 
-  -- the records of rows, and one more
+  -- the records of some rows, and one more record
   abbrev up_to : List X → Record → List Record
   up_to rows last = map kind.fields rows ++ last ∷ []
 
-  -- that record is refused
+  -- the last record is refused
   abbrev IsRefused : List X → Record → LoadFault → Type 0
   IsRefused rows last fault = IsUnread kind.fields kind.IsReadable last fault ⊎ IsUnheld kind rows last fault
 
-  -- more rows after the first are readable
+  -- the rows after the first are readable
   later_readable : (row : X) (rows : List X) → AllReadable (row ∷ rows) → AllReadable rows
   later_readable row rows all = λ i x within. all (suc i) x (omega arith)
 
-  -- rows of one record are one
+  -- rows with the same record are equal
   same_first : (row other : X) (rows others : List X) → AllReadable (row ∷ rows) → AllReadable (other ∷ others)
       → kind.fields other ≡ kind.fields row → other ≡ row
   same_first row other rows others small large same =
       is_kind.once other row (large 0 other (omega arith)) (small 0 row (omega arith)) same
 
-  -- rows that a record follows, and more rows whose records are these and others: the record is that of the next of them
+  -- if some rows and a record begin the records of more rows, the record is that of the next row
   next_row : (rows more : List X) (last : Record) (tail rest : List Record) → AllReadable rows → AllReadable more
       → length rows < length more → map kind.fields more ++ tail ≡ up_to rows last ++ rest
       → (row : X) × (others : List X) × (more ≡ rows ++ row ∷ others) × (last ≡ kind.fields row)
@@ -85,7 +85,7 @@ module _ {X : Type 0} (kind : RowKind X) (is_kind : IsKind kind) where
       let (row, after, splits, found) = next_row rows more last tail rest small' large' (omega arith) others in
       (row, after, λ i. is i ∷ splits i, found)
 
-  -- the same number of rows
+  -- the same with the same number of rows
   same_rows : (rows more : List X) (last next : Record) (rest : List Record) → AllReadable rows → AllReadable more
       → length rows ≡ length more → up_to more next ≡ up_to rows last ++ rest → (more ≡ rows) × (next ≡ last)
   same_rows [] [] last next rest small large alike same = (refl, cc same)
@@ -109,11 +109,11 @@ module _ {X : Type 0} (kind : RowKind X) (is_kind : IsKind kind) where
       let splits = all_same rows more (later_readable r rows small) (later_readable m more large) others in
       λ i. is i ∷ splits i
 
-  -- a row among rows that are held is read
+  -- a row among rows that are held is readable
   readable_among : (rows : List X) (row : X) (others : List X) → kind.AreHeld (rows ++ row ∷ others) → kind.IsReadable row
   readable_among rows row others held = among_all kind.IsReadable rows row others (is_kind.readable (rows ++ row ∷ others) held)
 
-  -- so no record of one of them stops a text
+  -- no record of such a row is refused
   unstopped : (rows : List X) (row : X) (others : List X) (fault : LoadFault) → kind.AreHeld (rows ++ row ∷ others)
       → IsRefused rows (kind.fields row) fault → ⊥
   unstopped rows row others fault held (inl unread) = by fault unread
@@ -130,7 +130,7 @@ module _ {X : Type 0} (kind : RowKind X) (is_kind : IsKind kind) where
       let wrong : None ≡ Some fault = sym (is_kind.follows rows row others held) ∙ ap (λ (r : X). kind.fault_after rows r) same ∙ refused in
       cc wrong
 
-  -- one record is refused for one reason
+  -- a record is refused for only one reason
   unread_once : (last : Record) (f g : LoadFault) → IsUnread kind.fields kind.IsReadable last f → IsUnread kind.fields kind.IsReadable last g → f ≡ g
   unread_once last faults.Csv faults.Csv x y = refl
   unread_once last faults.Csv faults.Syntax x y = let wrong : false ≡ true = sym x ∙ y.0 in cc wrong
@@ -154,7 +154,7 @@ module _ {X : Type 0} (kind : RowKind X) (is_kind : IsKind kind) where
       let both : Some f ≡ Some g = sym refused ∙ ap (λ (r : X). kind.fault_after rows r) same ∙ refused' in
       cc both
 
-  -- a text that stops before one of some rows does not give these
+  -- a text that is refused at the record of one of these rows does not contain these rows
   stops_within : (text : List ℕ) (fault : LoadFault) (stops : StopsAt kind text fault) (rows : List X) (tail : List Record)
       → kind.AreHeld rows → AreFirst text (names ∷ (map kind.fields rows ++ tail)) → length stops.rows < length rows → ⊥
   stops_within text fault stops rows tail held first less =
@@ -168,7 +168,7 @@ module _ {X : Type 0} (kind : RowKind X) (is_kind : IsKind kind) where
       let refused = subst (λ (l : Record). IsRefused stops.rows l fault) is stops.refused in
       unstopped stops.rows row others fault (subst kind.AreHeld splits held) refused
 
-  -- a text that gives its rows stops nowhere
+  -- a text that gives its rows is not refused at any record
   read_or_stopped : (text : List ℕ) (rows : List X) (fault : LoadFault) → AreAll text (names ∷ map kind.fields rows) → kind.AreHeld rows
       → StopsAt kind text fault → ⊥
   read_or_stopped text rows fault all held stops =
@@ -178,7 +178,7 @@ module _ {X : Type 0} (kind : RowKind X) (is_kind : IsKind kind) where
       stops_within text fault stops rows [] held first
       (omega (arith, most, long kind.fields stops.rows stops.last, length-map rows kind.fields))
 
-  -- it stops once
+  -- a text is refused at only one record
   stopped_even : (text : List ℕ) (f g : LoadFault) (x : StopsAt kind text f) (y : StopsAt kind text g) → length x.rows ≡ length y.rows → f ≡ g
   stopped_even text f g x y even =
       let (rest, more) = first_more text (names ∷ up_to x.rows x.last) (names ∷ up_to y.rows y.last) x.records y.records
@@ -204,7 +204,7 @@ module _ {X : Type 0} (kind : RowKind X) (is_kind : IsKind kind) where
       let same : map kind.fields rows ≡ map kind.fields more = cc is in
       all_same more rows (is_kind.readable more held') (is_kind.readable rows held) same
 
-  -- why a text is refused: the names are missing, or it stops
+  -- why a text is refused: the names are missing, or a record is refused
   abbrev IsWhy : List ℕ → LoadFault → Type 0
   IsWhy text fault = ((fault ≡ faults.Csv) × HasNoNames text) ⊎ StopsAt kind text fault
 
@@ -214,7 +214,7 @@ module _ {X : Type 0} (kind : RowKind X) (is_kind : IsKind kind) where
   alike text f g (inr x) (inl y) = absurd (named text _ x.records y.1)
   alike text f g (inr x) (inr y) = stopped_once text f g x y
 
--- a text gives what its rows do, or is refused for its reason
+-- the result is determined by the rows of the text, or by the reason why it is refused
 module _ {X A : Type 0} (kind : RowKind X) (is_kind : IsKind kind) (text : List ℕ) (Reads : Result A LoadFault → Type 0)
     (rows_of : (given : A) → Reads (Ok given) → (rows : List X) × AreAll text (names ∷ map kind.fields rows) × kind.AreHeld rows)
     (by_rows : (given other : A) (x : Reads (Ok given)) (y : Reads (Ok other)) → (rows_of given x).0 ≡ (rows_of other y).0 → given ≡ other)

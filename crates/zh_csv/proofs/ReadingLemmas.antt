@@ -1,4 +1,4 @@
--- Why a text is refused, whatever the rows are.
+-- Why a text is refused, for rows of any kind.
 use Rattle.std.proofs.Common.{◌≡◌, ◌≢◌, ◌≤◌, ◌<◌, ◌&&◌, ◌==◌, nat_le, ◌⊎◌, inl, inr, ℕ, suc, List, [], ◌∷◌, ◌++◌, map, length}
 use Rattle.std.proofs.Common.{length-append, append_assoc, All, Bool, true, false, Option, None, Result, Ok, Err, refl, sym, ap, ◌∙◌}
 use Rattle.std.proofs.Common.{subst, arith}
@@ -13,15 +13,15 @@ use Rattle.zh_csv.specs.declared.batch_reader.LoadFault.TheVariants as faults
 use Rattle.zh_csv.proofs.CutLemmas.{EndsInPart, all_of_front, first_of_front}
 use Rattle.zh_csv.proofs.RecordsLemmas.{begin_all}
 
--- a kind of which each row that is read has a record of its own, which may be that of a row; and where rows are held together,
--- each of them is read and follows those before it
+-- a proper kind of row: each readable row has a record of its own, which can be that of a row; if rows are held together, each of them is
+-- readable and can follow those before it
 pub record IsKind {X : Type 0} (kind : RowKind X) : Type 0 where
   pub may : (row : X) → kind.IsReadable row → may_be_row (kind.fields row) ≡ true
   pub once : (row other : X) → kind.IsReadable row → kind.IsReadable other → kind.fields row ≡ kind.fields other → row ≡ other
   pub readable : (rows : List X) → kind.AreHeld rows → All kind.IsReadable rows
   pub follows : (rows : List X) (row : X) (others : List X) → kind.AreHeld (rows ++ row ∷ others) → kind.fault_after rows row ≡ None
 
--- a record that may be that of a row is not too long
+-- a record that can be that of a row is not too long
 short_enough : (last : Record) → may_be_row last ≡ true → most_bytes < record_size last → ⊥
 short_enough last may long = by (length last == 4) refl may
   where
@@ -40,7 +40,7 @@ too_long last long = by (may_be_row last) refl
 pub four_short : (a b c d : List ℕ) → length a ≤ 10 → length b ≤ 10 → length c ≤ 10 → length d ≤ 10 → may_be_row (a ∷ b ∷ c ∷ d ∷ []) ≡ true
 four_short a b c d x y z w = let short : record_size (a ∷ b ∷ c ∷ d ∷ []) ≤ most_bytes = omega arith in grind (arith, nat_tests)
 
--- lists that end alike
+-- equal lists have equal last elements, and equal elements before them
 same_ends : {A : Type 0} (xs ys : List A) (x y : A) → xs ++ x ∷ [] ≡ ys ++ y ∷ [] → (xs ≡ ys) × (x ≡ y)
 same_ends [] [] x y same = (refl, cc same)
 same_ends [] (b ∷ ys) x y same = absurd (omega (arith, ap (λ (l : List _). length l) same, length-append ys (y ∷ [])))
@@ -52,14 +52,14 @@ same_ends (a ∷ xs) (b ∷ ys) x y same =
     (λ i. head i ∷ rest i, last)
 
 module _ {X : Type 0} (kind : RowKind X) where
-  -- a record that cannot follow these
+  -- a record that cannot follow these rows
   pub refused_here : (text : List ℕ) (rows : List X) (last : Record) (fault : LoadFault) → kind.AreHeld rows
       → AreFirst text ((names ∷ map kind.fields rows) ++ last ∷ [])
       → (fault ≢ faults.Memory → IsUnread kind.fields kind.IsReadable last fault ⊎ IsUnheld kind rows last fault) → Refuses kind text fault
   refused_here text rows last fault held first refused = λ other _.
       inr (record { rows = rows; last = last; records = first; held = held; refused = refused other })
 
-  -- a row that is held
+  -- one more row is held
   pub given_more : {R : Type 0} (remaining : R → Option (List ℕ)) (text : List ℕ) (rows : List X) (last : Record) (row : X) (reader : Reader R)
       → last ≡ kind.fields row → HasRead remaining text ((names ∷ map kind.fields rows) ++ last ∷ []) reader
       → HasRead remaining text (names ∷ map kind.fields (rows ++ row ∷ [])) reader
@@ -68,13 +68,13 @@ module _ {X : Type 0} (kind : RowKind X) where
       ap (λ (r : Record). names ∷ (map kind.fields rows ++ r ∷ [])) is ∙ ap (λ (rs : List Record). names ∷ rs) (sym (map-append kind.fields rows (row ∷ []))) in
       subst (λ (records : List Record). HasRead remaining text records reader) same has
 
-  -- a text of which less is known
+  -- the same for a narrower set of texts
   pub reads_of : (IsText Known : List ℕ → Type 0) (Holds : List X → Type 0) (result : Result ℕ LoadFault)
       → ((text : List ℕ) → Known text → IsText text) → ReadsRows kind IsText Holds result → ReadsRows kind Known Holds result
   reads_of IsText Known Holds (Ok count) known (rows, holds, is_count, all) = (rows, holds, is_count, λ text is. all text (known text is))
   reads_of IsText Known Holds (Err fault) known refused = λ text is. refused text (known text is)
 
--- the records of rows are no part of one that is too long
+-- no record of rows is too long
 module _ {X : Type 0} (kind : RowKind X) (is_kind : IsKind kind) (text : List ℕ) where
   among : (first : Record) (rows : List X) (few : List Record) (part : Record) (rest : List Record) → may_be_row first ≡ true
       → All kind.IsReadable rows → first ∷ map kind.fields rows ≡ few ++ part ∷ rest → may_be_row part ≡ true
@@ -85,14 +85,14 @@ module _ {X : Type 0} (kind : RowKind X) (is_kind : IsKind kind) (text : List �
       let others : kind.fields row ∷ map kind.fields rows ≡ few ++ part ∷ rest = cc is in
       among (kind.fields row) rows few part rest (is_kind.may row (readable 0 row (omega arith))) (λ i x within. readable (suc i) x (omega arith)) others
 
-  -- nor is a text of theirs cut off
+  -- no text of such records is cut off
   pub never_cut : (rows : List X) (few : List Record) (last : Record) → kind.AreHeld rows → AreAll text (names ∷ map kind.fields rows)
       → AreFirst text (few ++ last ∷ []) → most_bytes < record_size last → ⊥
   never_cut rows few last held all first long =
       let (rest, is) = begin_all text (names ∷ map kind.fields rows) (few ++ last ∷ []) all first in
       short_enough last (among names rows few last rest refl (is_kind.readable rows held) (is ∙ append_assoc few (last ∷ []) rest)) long
 
-  -- so they are read in full
+  -- the rows of the front are those of the text
   pub rows_of_front : (rows : List X) → kind.AreHeld rows → AreAll (front_of text) (names ∷ map kind.fields rows) → AreAll text (names ∷ map kind.fields rows)
   rows_of_front rows held all = by (all_of_front text (names ∷ map kind.fields rows) all)
     where
@@ -100,7 +100,7 @@ module _ {X : Type 0} (kind : RowKind X) (is_kind : IsKind kind) (text : List �
       by (inl whole) = whole
       by (inr cut) = absurd (short_enough cut.part (among names rows cut.few cut.part [] refl (is_kind.readable rows held) cut.is) cut.long)
 
-  -- and where the front is refused, so is the text
+  -- if the front is refused, so is the text
   stops_of_front : (fault : LoadFault) → StopsAt kind (front_of text) fault → StopsAt kind text fault
   stops_of_front fault stops = by (first_of_front text (names ∷ (map kind.fields stops.rows ++ stops.last ∷ [])) stops.records)
     where

@@ -1,4 +1,4 @@
--- The records that a reader gives of a text are its first, which are the same for all who read it.
+-- The records that a reader gives of a text are the text's first ones, and the same for every reader.
 use Rattle.std.proofs.Common.{◌≡◌, ◌≤◌, ℕ, List, [], ◌∷◌, ◌++◌, length, Option, Some, None, Bool, true, false, refl, sym, ap, ◌∙◌, inl, subst, arith}
 use Rattle.std.specs.Bool.{MatchBool}
 use Rattle.std.proofs.lemmas.List.{append-nil, length-append}
@@ -11,7 +11,7 @@ use Rattle.csv.specs.declared.reader.Reader.{Reader}
 use Rattle.csv.proofs.ReadFacts.{rows-more, rows-end}
 use Rattle.zh_csv.specs.Records.{Record, AreAll, AreFirst, HasRead}
 
--- of two fronts of a text the longer one begins with the shorter one
+-- of two beginnings of a text, the longer one begins with the shorter one
 reached_more : (cfg : Config) (s s2 s3 : State) (xs ys zs : List ℕ) (few many : List Record)
     → Reached cfg s xs few s2 ys → Reached cfg s xs many s3 zs → length few ≤ length many
     → (rest : List Record) × (many ≡ few ++ rest)
@@ -25,7 +25,7 @@ reached_more cfg s s2 s3 xs ys zs (a ∷ few) (b ∷ many) (p, next, is, reached
     let first : b ≡ a = is' ∙ ap (λ (r : Read). r.0) (sym same) ∙ sym is in
     (rest, λ i. first i ∷ more i)
 
--- after all records there is none
+-- after all records there is no further one
 reached_all : (cfg : Config) (s s2 s3 : State) (xs ys zs : List ℕ) (all few : List Record)
     → Reached cfg s xs all s2 ys → next_record cfg s2 [] [] ys ≡ None → Reached cfg s xs few s3 zs → length few ≤ length all
 unfolding Reached
@@ -51,11 +51,11 @@ pub none_after : (text : List ℕ) (all few : List Record) → AreAll text all �
 none_after text all few (s2, ys, reached, none) (s3, zs, other) =
     reached_all default_config states.StartRecord s2 s3 (strip_bom text) ys zs all few reached none other
 
--- records that begin a text begin all of them
+-- the first records of a text are the first of all its records
 pub begin_all : (text : List ℕ) (all few : List Record) → AreAll text all → AreFirst text few → (rest : List Record) × (all ≡ few ++ rest)
 begin_all text all few are first = first_more text few all first (all_first text all are) (none_after text all few are first)
 
--- all records of a text are these alone
+-- a text determines all its records
 pub all_once : (text : List ℕ) (all others : List Record) → AreAll text all → AreAll text others → all ≡ others
 all_once text all others are other_are =
     let (rest, is) = begin_all text all others are (all_first text others other_are) in
@@ -67,7 +67,7 @@ all_once text all others are other_are =
 
 module _ {R : Type 0} (remaining : R → Option (List ℕ)) (text : List ℕ) (records : List Record) (fields : Record) (old new : Reader R)
     (has : HasRead remaining text records old) where
-  -- a record that was given
+  -- a record was given
   found_more : ReadRecord remaining old new true fields → took_first new ≡ true → is_flexible new ≡ is_flexible old
       → HasRead remaining text (records ++ fields ∷ []) new
   found_more read ready flexible =
@@ -83,18 +83,18 @@ module _ {R : Type 0} (remaining : R → Option (List ℕ)) (text : List ℕ) (r
         leaves = more.2;
       }
 
-  -- the end of the text
+  -- the text has ended
   found_none : ReadRecord remaining old new false fields → AreAll text records
   found_none read =
       (old.state, has.rest, has.leaves, rows-end remaining old new fields default_config has.rest has.config has.source read)
 
-  -- a read that succeeded
+  -- a read succeeded
   pub found_either : (found : Bool) → ReadRecord remaining old new found fields → took_first new ≡ true → is_flexible new ≡ is_flexible old
       → MatchBool found (HasRead remaining text (records ++ fields ∷ []) new) (AreAll text records)
   found_either true read ready flexible = found_more read ready flexible
   found_either false read ready flexible = found_none read
 
--- the records that a reader gave are the first of its text
+-- the records that a reader gave are the first ones of its text
 pub are_first : {R : Type 0} (remaining : R → Option (List ℕ)) (text : List ℕ) (records : List Record) (reader : Reader R)
     → HasRead remaining text records reader → AreFirst text records
 are_first remaining text records reader has = (reader.state, has.rest, has.leaves)

@@ -1,4 +1,4 @@
--- The keys and the sums of rows, with one row more.
+-- The keys and the sums of rows, with one more row.
 use Rattle.std.proofs.Common.{◌≡◌, ◌∙◌, ◌||◌, ℕ, Bool, true, false, List, [], ◌∷◌, ◌++◌, Option, None, unwrap_or, refl, sym, ap, subst, arith}
 use Rattle.std.specs.List.{list_any, IsDistinct}
 use Rattle.std.specs.Ordering.{eq_by_cmp, is_eq}
@@ -23,13 +23,13 @@ or_swap true true c = refl
 or_swap true false c = refl
 or_swap false b c = refl
 
--- the keys of rows and of one more
+-- the keys of some rows and of one more
 pub key_more : (rows : List HeldRow) (row : HeldRow) (key : ℕ × ℕ) → holds_key (rows ++ row ∷ []) key ≡ (eq_by_cmp key_cmp key (held_key row) || holds_key rows key)
 key_more [] row key = refl
 key_more (first ∷ rows) row key =
     ap (λ b. eq_by_cmp key_cmp key (held_key first) || b) (key_more rows row key) ∙ or_swap (eq_by_cmp key_cmp key (held_key first)) (eq_by_cmp key_cmp key (held_key row)) (holds_key rows key)
 
--- its change can be noted in the sums of the others
+-- the change of one more row can be noted in the sums
 pub can_take : (canton : Canton) (rows : List HeldRow) (row : HeldRow) (totals : VoteTotals) (change : Change)
     → Follows canton rows row → AreHeld canton rows → totals ≡ sums_of canton rows → change ≡ change_of canton row
     → IsChange totals change
@@ -37,7 +37,7 @@ can_take canton rows row totals change follows are so_far is =
     let noting = is_noted canton rows row are follows in
     subst (IsChange totals) (sym is) (subst (λ (t : VoteTotals). IsChange t (change_of canton row)) (sym so_far) noting.can)
 
--- and then these are the sums of all
+-- the sums with this change are those of all rows
 pub has_taken : (canton : Canton) (rows : List HeldRow) (row : HeldRow) (old new : RunningSums) (change : Change)
     → Follows canton rows row → HasTaken canton rows old → change ≡ change_of canton row → new.totals ≡ noted old.totals change
     → ((key : ℕ × ℕ) → has_seen new.keys key ≡ (eq_by_cmp key_cmp key (held_key row) || holds_key rows key))
@@ -61,7 +61,7 @@ none_taken canton sums none totals = record {
   totals = totals;
 }
 
--- the row that was judged is the row
+-- the row that was judged is this row
 abbrev pub judged_row : HeldRow → ℕ → Row
 judged_row row votes = record { municipality = row.municipality; list = row.list; number = row.number; votes = votes }
 
@@ -71,7 +71,7 @@ pub fit_of : (canton place : Canton) (row : HeldRow) (votes : ℕ) (judged : Opt
 fit_of canton place row votes judged same is by none =
     ap (λ (n : ℕ). unfit canton (judged_row row n)) (sym is) ∙ ap (λ (k : Canton). unfit k (judged_row row votes)) (sym same) ∙ sym by ∙ none
 
--- the change that is noted is that of the row
+-- the change that is noted is that of this row
 abbrev pub noted_change : HeldRow → ℕ → ℕ → Change
 noted_change row constituency votes = record { constituency = constituency; list = row.list; before = 0; after = votes }
 

@@ -1,4 +1,4 @@
--- What a byte of a text leads to, from a point of it and from a state of the machine that reads it.
+-- What a byte of a text leads to, in the state of our scanner and in that of the machine of `csv`.
 use Rattle.std.proofs.Common.{◌≡◌, ◌≢◌, ◌≤◌, ◌<◌, ◌+◌, ◌*◌, ◌==◌, ℕ, suc, List, [], ◌∷◌, ◌++◌, length}
 use Rattle.std.proofs.Common.{length-append, Option, Some, Bool, true, false, refl, arith}
 use Rattle.std.proofs.lemmas.Bool.Decides.{nat_tests}
@@ -14,7 +14,7 @@ use Rattle.zh_csv.specs.Records.{Record, record_size}
 use Rattle.zh_csv.specs.declared.front_reader.Point.{Point}
 use Rattle.zh_csv.specs.declared.front_reader.Point.TheVariants as points
 
--- what the machine makes of a byte: its state, what it does, and the fields and the part of a field that it has
+-- what the machine does with a byte: its next state, its action, and the fields and the part of a field that it then has
 abbrev pub state_after : State → ℕ → State
 state_after state byte = (step default_config state byte).0
 
@@ -27,7 +27,7 @@ record_after state byte fields field = fields_after (action_at state byte) field
 abbrev pub part_after : State → ℕ → List ℕ → List ℕ
 part_after state byte field = field_after (action_at state byte) byte field
 
--- what it reads next of a text
+-- the next record that the machine reads
 abbrev pub read_next : State → Record → List ℕ → List ℕ → Option Read
 read_next state fields field text = next_record default_config state fields field text
 
@@ -35,7 +35,7 @@ read_next state fields field text = next_record default_config state fields fiel
 abbrev pub front_between : ℕ → List ℕ → List ℕ
 front_between most text = front most points.Between most text
 
--- the reader of records is in this state where a text stands at this point
+-- the machine is in this state when our scanner is in that one
 abbrev pub Stands : Point → State → Type 0
 Stands points.Between states.StartRecord = Unit {0}
 Stands points.Between states.AfterCr = Unit {0}
@@ -45,18 +45,18 @@ Stands points.Quoted states.InQuoted = Unit {0}
 Stands points.Closed states.AfterQuote = Unit {0}
 Stands point state = ⊥
 
--- how many quotation marks of the field at hand are not in it, at most, besides those that are written twice
+-- the most quotation marks of the current field that were read and are not part of it, apart from those written twice
 abbrev pub marks : Point → ℕ
 marks points.Plain = 2
 marks points.Quoted = 1
 marks points.Closed = 2
 marks point = 0
 
--- no more bytes were read of the record at hand than these fields and this part of a field may have
+-- no more bytes of the current record were read than these fields and this part of a field can take
 abbrev pub Counts : ℕ → ℕ → Point → Record → List ℕ → Type 0
 Counts most left point fields field = most ≤ left + 3 * record_size fields + 2 * length field + marks point
 
--- what a byte leads to, from a point
+-- what holds after a byte that leads from one state to the other
 pub record Steps (most left : ℕ) (from to : Point) (state : State) (action : Action) (fields : Record) (field : List ℕ) : Type 0 where
   pub stands : Stands to state
   pub between : is_end action ≡ true → to ≡ points.Between
@@ -148,7 +148,7 @@ module _ (most left byte : ℕ) (from : Point) (fields : Record) (field : List �
       by false false f g = rw (f, g) (rw (f, g) at (start_steps counts))
   record_steps at none empty counts state stands = absurd stands
 
--- what a byte leads to, wherever a text stands
+-- what a byte leads to, in any state
 pub steps : (most left byte : ℕ) (point : Point) (state : State) (fields : Record) (field : List ℕ) → Stands point state
     → (point ≡ points.Between → (fields ≡ []) × (field ≡ [])) → Counts most (suc left) point fields field
     → StepsTo most left byte point fields field (point_after point byte) (step default_config state byte)
@@ -160,7 +160,7 @@ steps most left byte points.Quoted states.InQuoted fields field stands fresh cou
 steps most left byte points.Closed states.AfterQuote fields field stands fresh counts = closed_steps most left byte points.Closed fields field counts
 steps most left byte point state fields field stands fresh counts = absurd stands
 
--- in a record the end of a text ends it
+-- inside a record, the end of the text ends the record
 pub inside_ends : (point : Point) (state : State) → Stands point state → point ≢ points.Between → ends_at_end state ≡ true
 inside_ends points.Between state stands inside = absurd (inside refl)
 inside_ends points.Field states.StartField stands inside = refl
@@ -169,7 +169,7 @@ inside_ends points.Quoted states.InQuoted stands inside = refl
 inside_ends points.Closed states.AfterQuote stands inside = refl
 inside_ends point state stands inside = absurd stands
 
--- the bytes of a record do not become fewer
+-- the number of bytes of a record does not decrease
 size_grows : (action : Action) (byte : ℕ) (fields : Record) (field : List ℕ) → is_end action ≡ false
     → record_size fields + length field ≤ record_size (fields_after action fields field) + length (field_after action byte field)
 size_grows actions.Skip byte fields field goes = omega arith
@@ -184,7 +184,7 @@ size_ends actions.Copy fields field goes = cc goes
 size_ends actions.EndField fields field goes = cc goes
 size_ends actions.EndRecord fields field ends = omega (arith, size_push fields field)
 
--- in a record there is one, of these bytes at least
+-- there is a next record, with more than these bytes
 pub record IsRecordOf (fields : Record) (field : List ℕ) (next : Option Read) : Type 0 where
   pub read : Read
   pub is : next ≡ Some read

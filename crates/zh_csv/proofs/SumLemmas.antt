@@ -1,4 +1,4 @@
--- The count in which rows are held, and its sums, with one row more.
+-- The count in which rows are held, and its sums, with one more row.
 use Rattle.std.proofs.Common.{◌≡◌, ◌∙◌, ◌≤◌, ◌||◌, ℕ, suc, Bool, true, false, cond, List, [], ◌∷◌, ◌++◌, map}
 use Rattle.std.proofs.Common.{Option, Some, None, IfSome, unwrap_or, All, refl, sym, ap, subst, arith}
 use Rattle.std.specs.Option.{option_map_or}
@@ -27,12 +27,12 @@ use Rattle.zh_csv.specs.Rows.{held_key, held_entry, as_row, IsHeldRow, holds_key
 abbrev pub keyed : HeldRow → (ℕ × ℕ) × Entry
 keyed row = (held_key row, held_entry row)
 
--- both parts of a choice that does not hold
+-- if a disjunction is false, both parts are
 neither : (a b : Bool) → (a || b) ≡ false → (a ≡ false) × (b ≡ false)
 neither true b h = cc h
 neither false b h = (refl, h)
 
--- nothing is held under a key that no row has
+-- nothing is held at a key that no row has
 pub nothing_held : (canton : Canton) (rows : List HeldRow) (m l : ℕ) → holds_key rows (m, l) ≡ false → held (count_of canton rows) m l ≡ None
 nothing_held canton [] m l fresh = map_of.get-empty key_cmp (m, l)
 nothing_held canton (row ∷ rows) m l fresh =
@@ -41,11 +41,11 @@ nothing_held canton (row ∷ rows) m l fresh =
     ∙ ap (λ b. cond b (Some (held_entry row)) (held (count_of canton rows) m l)) other
     ∙ nothing_held canton rows m l rest
 
--- a row of a set-up: where its list stands, and its entry within the limits
 few_votes : (votes : Option ℕ) → unwrap_or votes 0 ≤ most_votes → IfSome votes (λ n. n ≤ most_votes)
 few_votes None few = tt
 few_votes (Some n) few = few
 
+-- a row of a set-up: its list stands in its municipality, and its entry is within the limits
 pub record IsPlaced (canton : Canton) (row : HeldRow) : Type 0 where
   pub there : has_municipality canton row.municipality ≡ true
   pub standing : stands canton (constituency_of canton row.municipality) row.list ≡ true
@@ -74,14 +74,14 @@ tally_of canton (row ∷ rows) limits readable fit =
 pub IsTally-count_of : (canton : Canton) (rows : List HeldRow) → IsCanton canton → AreHeld canton rows → IsTally (count_of canton rows)
 IsTally-count_of canton rows limits are = tally_of canton rows limits are.readable are.fit
 
--- a row that follows others
+-- a row that can follow others
 pub record Follows (canton : Canton) (rows : List HeldRow) (row : HeldRow) : Type 0 where
   pub limits : IsCanton canton
   pub readable : IsHeldRow row
   pub fit : unfit canton (as_row row) ≡ None
   pub fresh : holds_key rows (held_key row) ≡ false
 
--- one row more
+-- one more row
 pub held_more : (canton : Canton) (rows : List HeldRow) (row : HeldRow) → AreHeld canton rows → Follows canton rows row
     → AreHeld canton (rows ++ row ∷ [])
 held_more canton rows row are follows =
@@ -92,7 +92,7 @@ held_more canton rows row are follows =
       keys = rw (map-append held_key rows (row ∷ [])) distinct;
     }
 
--- the change that a row is to the sums of those before it
+-- the change that a row makes to the sums of those before it
 abbrev pub change_of : Canton → HeldRow → Change
 change_of canton row = record {
   constituency = constituency_of canton row.municipality;

@@ -1,4 +1,4 @@
--- What becomes of a record after rows that are held.
+-- What a record leads to, after rows that are held.
 use Rattle.std.proofs.Common.{◌≡◌, ◌≢◌, ◌<◌, ◌⊎◌, inr, List, [], ◌∷◌, ◌++◌, length, Some, Result, Ok, Err, arith}
 use Rattle.std.specs.Prelude.{MatchResult}
 use Rattle.std.proofs.lemmas.List.{length_push}

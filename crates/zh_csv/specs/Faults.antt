@@ -1,4 +1,4 @@
--- What is wrong with a record.
+-- What is wrong with a record of an export.
 use Rattle.std.specs.Prelude.{ℕ, List, Option, Some, None, codes}
 use Rattle.zh_csv.specs.declared.batch_reader.LoadFault.{LoadFault}
 use Rattle.zh_csv.specs.declared.batch_reader.LoadFault.TheVariants as faults
@@ -6,7 +6,7 @@ use Rattle.zh_returns.specs.declared.judgement.Reason.TheVariants as reasons
 use Rattle.zh_csv.specs.declared.held_sums.HeldFault.{HeldFault}
 use Rattle.zh_csv.specs.declared.held_sums.HeldFault.TheVariants as of_held
 
--- by the fault of an export; refused memory and a reader that fails are of no record
+-- the same, given the fault; if memory was refused or the reader failed, no record is wrong
 abbrev pub named : LoadFault → Option HeldFault
 named faults.Csv = Some of_held.Csv
 named faults.Syntax = Some of_held.Syntax
@@ -17,7 +17,7 @@ named (faults.Row fault) = Some of_held.Twice
 named faults.Memory = None
 named faults.Read = None
 
--- its name, as reports spell it
+-- the name of the fault in reports
 abbrev pub held_name : HeldFault → List ℕ
 held_name of_held.Csv = codes "held csv"
 held_name of_held.Syntax = codes "held syntax"

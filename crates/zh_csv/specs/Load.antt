@@ -12,18 +12,18 @@ use Rattle.zh_csv.specs.Reading.{RowKind, Refuses}
 use Rattle.zh_csv.specs.declared.batch_reader.LoadFault.{LoadFault}
 use Rattle.zh_csv.specs.declared.batch_reader.LoadFault.TheVariants as faults
 
--- the record of a row: its numerals
+-- the record of a row: four numerals
 abbrev pub fields : Row → Record
 fields row = decimal row.municipality ∷ decimal row.list ∷ decimal row.number ∷ decimal row.votes ∷ []
 
--- numbers of 32 bits, and a replacement number from 1
+-- the numbers are below 2 ^ 32, and the replacement number is at least 1
 pub record IsReadable (row : Row) : Type 0 where
   pub municipality : row.municipality < 2 ^ 32
   pub list : row.list < 2 ^ 32
   pub number : (1 ≤ row.number) × (row.number < 2 ^ 32)
   pub votes : row.votes < 2 ^ 32
 
--- why a row cannot follow others, memory aside: no batch may have it, or the batch does not take it
+-- why a row cannot follow others, apart from refused memory: no batch can have it, or this batch can't take it
 abbrev pub first_fault : Option Reason → Option RowFault → Option LoadFault
 first_fault (Some reason) fault = Some (faults.Judged reason)
 first_fault None (Some fault) = Some (faults.Row fault)
@@ -32,8 +32,8 @@ first_fault None None = None
 abbrev pub fault_after : Canton → List Row → Row → Option LoadFault
 fault_after canton rows row = first_fault (unfit canton row) (fault_in rows row)
 
--- rows that can be held together: at most 1,000, no two of one key, each of a list that stands in its municipality, with
--- no more votes than a return may have
+-- rows that can be held together: at most 1,000, no two with the same key, each of a list that stands in its municipality, with at most as
+-- many votes as a return can have
 pub record AreLoaded (canton : Canton) (rows : List Row) : Type 0 where
   pub are_rows : AreRows rows
   pub fit : All (λ row. unfit canton row ≡ None) rows
@@ -47,8 +47,8 @@ abbrev pub Loads : Canton → List ℕ → Result (List Row) LoadFault → Type 
 Loads canton text (Ok rows) = AreAll text (names ∷ map fields rows) × AreLoaded canton rows
 Loads canton text (Err fault) = Refuses (loading canton) text fault
 
--- What is loaded from a reader: rows that can be held together, or a fault, that of the reader only where a read of it
--- failed. What its text loads is said where its bytes are known.
+-- What is loaded from a reader: rows that can be held together, or a fault. It is a fault of the reader only if a read failed. If the bytes
+-- of the text are known, the result is what they load.
 pub record LoadsFrom (canton : Canton) (text : Option (List ℕ)) (failed : Bool) (loaded : Result (List Row) LoadFault) : Type 0 where
   pub rows : IfOk loaded (AreLoaded canton)
   pub read : loaded ≡ Err faults.Read → failed ≡ true

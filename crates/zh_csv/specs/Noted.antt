@@ -2,10 +2,10 @@
 use Rattle.std.specs.Prelude.{Bool}
 use Rattle.zh_csv.specs.declared.noted_reader.NotedReader.{NotedReader}
 
--- the reader that it reads from
+-- the underlying reader
 abbrev pub inner_reader : {R : Type 0} → NotedReader R → R
 inner_reader reader = reader.inner
 
--- a read of it failed
+-- whether a read failed
 abbrev pub has_failed : {R : Type 0} → NotedReader R → Bool
 has_failed reader = reader.has_failed

@@ -8,7 +8,7 @@ use Rattle.csv.specs.declared.reader.Reader.{Reader}
 use Rattle.csv.specs.declared.reader.Trim.TheVariants as trims
 use Rattle.zh_csv.specs.Front.{most_bytes}
 
--- a record: its fields, each of bytes
+-- a record: its fields, each a list of bytes
 abbrev pub Record : Type 0
 Record = List (List ℕ)
 
@@ -16,16 +16,16 @@ Record = List (List ℕ)
 abbrev pub names : Record
 names = codes "municipality" ∷ codes "list" ∷ codes "number" ∷ codes "votes" ∷ []
 
--- the bytes of a record: those of its fields, and for each one more, the comma or the end behind it
+-- the bytes of a record: those of its fields, and one more for each field, which is the comma or the record's end after it
 abbrev pub record_size : Record → ℕ
 record_size [] = 0
 record_size (field ∷ fields) = length field + 1 + record_size fields
 
--- whether a record may be that of a row: four fields, and no more bytes than a record may have
+-- whether a record can be that of a row: it has four fields, and at most `most_bytes` bytes
 abbrev pub may_be_row : Record → Bool
 may_be_row fields = (length fields == 4) && nat_le (record_size fields) most_bytes
 
--- these are all the records of a text
+-- these are all records of a text
 abbrev pub AreAll : List ℕ → List Record → Type 0
 AreAll text records = AreRecords default_config states.StartRecord (strip_bom text) records
 
@@ -34,7 +34,7 @@ abbrev pub AreFirst : List ℕ → List Record → Type 0
 AreFirst text records =
     (state : State) × (rest : List ℕ) × Reached default_config states.StartRecord (strip_bom text) records state rest
 
--- a reader that gave these records of a text, and gives the next one
+-- the reader has given these records of a text, and continues with the next one
 pub record HasRead {R : Type 0} (remaining : R → Option (List ℕ)) (text : List ℕ) (records : List Record) (reader : Reader R) : Type 0 where
   pub config : reader_config reader ≡ default_config
   pub trim : reader_trim reader ≡ trims.None

@@ -1,4 +1,4 @@
--- The rows of an export: what is held under a municipality and a list.
+-- The rows of an export: what is held for a municipality and a list.
 use Rattle.std.specs.Prelude.{◌≡◌, ℕ, ◌<◌, ◌≤◌, ◌^◌, Bool, List, map, All, None, IfSome, unwrap_or}
 use Rattle.std.specs.List.{list_any, IsDistinct}
 use Rattle.std.specs.Ordering.{eq_by_cmp}
@@ -16,35 +16,35 @@ use Rattle.zh_csv.specs.Export.{record_of}
 use Rattle.zh_csv.specs.Records.{Record}
 use Rattle.zh_csv.specs.declared.held_sums.HeldRow.{HeldRow}
 
--- the key under which it is held
+-- the key of a row
 abbrev pub held_key : HeldRow → ℕ × ℕ
 held_key row = (row.municipality, row.list)
 
--- what is held there; an export does not say where it came from
+-- the entry of a row; an export does not say where it came from
 abbrev pub held_entry : HeldRow → Entry
 held_entry row = record { origin = no_desk; number = row.number; votes = row.votes }
 
--- its record, as an export has it
+-- the record of a row in an export
 abbrev pub held_fields : HeldRow → Record
 held_fields row = record_of row.municipality row.list (held_entry row)
 
--- as a row of a batch; a withdrawn list has no votes
+-- the same as a row of a batch; a withdrawn list has no votes
 abbrev pub as_row : HeldRow → Row
 as_row row = record { municipality = row.municipality; list = row.list; number = row.number; votes = unwrap_or row.votes 0 }
 
--- numbers of 32 bits, and a replacement number from 1
+-- the numbers are below 2 ^ 32, and the replacement number is at least 1
 pub record IsHeldRow (row : HeldRow) : Type 0 where
   pub municipality : row.municipality < 2 ^ 32
   pub list : row.list < 2 ^ 32
   pub number : (1 ≤ row.number) × (row.number < 2 ^ 32)
   pub votes : IfSome row.votes (λ votes. votes < 2 ^ 32)
 
--- whether one of the rows is held under a key
+-- whether one of the rows has a key
 abbrev pub holds_key : List HeldRow → ℕ × ℕ → Bool
 holds_key rows key = list_any (eq_by_cmp key_cmp key) (map held_key rows)
 
--- rows of a set-up: each of a list that stands in its municipality, with no more votes than a return may have, and no two
--- under one key
+-- rows of a set-up: each of a list that stands in its municipality, with at most as many votes as a return can have, and no two with the
+-- same key
 pub record AreHeld (canton : Canton) (rows : List HeldRow) : Type 0 where
   pub readable : All IsHeldRow rows
   pub fit : All (λ row. unfit canton (as_row row) ≡ None) rows

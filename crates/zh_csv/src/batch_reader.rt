@@ -1,4 +1,4 @@
-//! A batch read from a text.
+//! Reading a batch from a text.
 ghost use Rattle.std.specs.Prelude.{◌≡◌, ◌≢◌, List, ◌++◌, ◌∷◌, [], ℕ, Some, None, IfOk, IfErr, IsErrOf, OnOk, OnErr, true};
 ghost use Rattle.zh_csv.specs.Load.{fault_after, Loads, AreLoaded, IsReadable};
 ghost use Rattle.zh_csv.specs.Noted.{has_failed, inner_reader};
@@ -14,7 +14,7 @@ use std::io::Read;
 use zh_districts::Setup;
 use zh_returns::{Batch, Reason, Row, RowFault, unfit};
 
-/// Puts a row after those of a batch. Where it cannot follow them, or memory is refused, the batch is as before.
+/// Adds a row to the end of a batch. If the row can't follow the others, or memory is refused, the batch is unchanged.
 pub fn hold(setup: &Setup, batch: &mut Batch, row: Row) -> Result<(), LoadFault>
     requires { IsReadable row }
     ensures held { OnOk result ((batch.new ≡ batch.old ++ row ∷ []) × (fault_after setup.now batch.old row ≡ None)) }
@@ -33,7 +33,7 @@ pub fn hold(setup: &Setup, batch: &mut Batch, row: Row) -> Result<(), LoadFault>
     Ok(())
 }
 
-/// The rows of a set-up that a text loads.
+/// The rows of a set-up that are being loaded.
 #[derive(Drop)]
 struct Loading<'s> {
     setup: &'s Setup,
@@ -55,8 +55,8 @@ impl<'s> Takes for Loading<'s> {
     }
 }
 
-/// Reads the batch of a text: the names of the columns, and then a record for each row. At most 1,002 records are read, and one
-/// of them is held at a time.
+/// Reads a batch from a text: a record with the names of the columns, then one for each row. Reads at most 1,002
+/// records and holds one of them at a time.
 pub fn read_batch<R: Read>(
     alloc: Global,
     setup: &Setup,
@@ -74,18 +74,19 @@ pub fn read_batch<R: Read>(
     Ok(loading.rows)
 }
 
-/// Why a text gives no batch: of the first record that cannot be taken, the first reason that applies.
+/// Why a text gives no batch: the first reason that applies to the first record that is refused.
 #[derive(Clone, Copy, Debug, PartialEq, Eq)]
 pub enum LoadFault {
     /// The first record is missing or does not name the columns, or a record does not have four fields or is too long.
     Csv,
-    /// A field is no numeral, or a replacement number is 0.
+    /// A field is not a numeral, or a replacement number is 0.
     Syntax,
-    /// No batch may have this row.
+    /// No batch can have this row, for the reason given.
     Judged(Reason),
-    /// The rows before it leave no room for this row.
+    /// The batch can't take this row after those before it: one of them has the same municipality and list, or there
+    /// are 1,000.
     Row(RowFault),
-    /// Memory ran out.
+    /// An allocation was refused.
     Memory,
     /// The reader failed.
     Read,

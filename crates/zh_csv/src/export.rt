@@ -1,4 +1,4 @@
-//! The count written as text.
+//! Writing the count as text.
 
 ghost use Rattle.std.specs.Prelude.{◌≡◌, OnOk, IfOk};
 ghost use Rattle.std.specs.Io.KnownBytes.{Appends};
@@ -11,7 +11,7 @@ use std::io::Write;
 use zh_record_text::{NumberedRows, RecordFault, write_each, write_record, write_table};
 use zh_returns::{Count, Entry};
 
-/// The field of votes: their numeral, or that the list is withdrawn.
+/// The field of votes: their numeral, or `withdrawn`.
 fn votes_field(votes: Option<u32>, numeral: &mut Buffer) -> &[u8]
     ensures { result.now ≡ votes_field votes }
 {
@@ -21,7 +21,7 @@ fn votes_field(votes: Option<u32>, numeral: &mut Buffer) -> &[u8]
     }
 }
 
-/// Writes the record of what is held under a key.
+/// Writes the record of an entry.
 fn write_entry<W: Write + Drop>(
     writer: &mut Writer<W>,
     municipality: u32,
@@ -73,7 +73,7 @@ impl<'c, W: Write + Drop> NumberedRows<W> for HeldIn<'c> {
     }
 }
 
-/// What is held, municipality by municipality.
+/// What is held, by municipality.
 #[derive(Drop)]
 struct Held<'c> {
     count: &'c Count<'c>,
@@ -102,8 +102,8 @@ impl<'c, W: Write + Drop> NumberedRows<W> for Held<'c> {
     }
 }
 
-/// Writes the count: the names of the columns, and then a record for each municipality and list under which something
-/// is held, in order. It gives the writer back. After an error a front of the text may be written.
+/// Writes the count: a record with the names of the columns, then one for each municipality and list that has an entry,
+/// in order. Returns the writer. On an error, a prefix of the text might have been written.
 pub fn write_count<W: Write + Drop>(count: &Count<'_>, writer: W) -> Result<W, RecordFault>
     ensures { IfOk result (λ after. Appends (W.contents writer) (W.contents after) (export_text count.now)) }
 {

@@ -1,4 +1,4 @@
-//! A reader of the front of a text.
+//! A reader of the front of a text: it ends where a record is too long.
 ghost use Rattle.std.specs.Io.{ReadsAtMost};
 ghost use Rattle.std.specs.Io.KnownBytes.{ReadConsumes};
 ghost use Rattle.std.specs.Prelude.{◌≡◌, ◌≤◌, ◌<◌, ◌-◌, ◌++◌, ℕ, List, length, option_map, take};
@@ -8,11 +8,11 @@ ghost use Rattle.zh_csv.specs.Fronts.{front_left};
 use crate::records::MOST_BYTES;
 use std::io::{Read, Result};
 
-/// The most bytes of a text that are read of a record: each field may stand in quotation marks, and each byte in them be one,
-/// written twice.
+/// The most bytes that are read of one record. A field can be in quotation marks, and each of its bytes can be a
+/// quotation mark, which is written twice.
 const MOST_READ: usize = 3 * MOST_BYTES;
 
-/// Where a text stands, and how many bytes more are read of the record there.
+/// The state of the scanner at a byte of a text, and how many more bytes of the current record are read.
 #[derive(Clone, Copy)]
 struct Limit {
     point: Point,
@@ -20,7 +20,7 @@ struct Limit {
 }
 
 impl Limit {
-    /// Counts a byte that is read.
+    /// Counts one byte that was read.
     fn count(&mut self, byte: u8)
         requires { 0 < self.old.left }
         ensures { (self.new.point ≡ point_after self.old.point byte)
@@ -33,7 +33,7 @@ impl Limit {
         };
     }
 
-    /// Counts bytes that follow, and returns how many of them are read.
+    /// Counts the next bytes, up to the limit, and returns how many of them are read.
     fn pass(&mut self, bytes: &[u8]) -> usize
         ensures count { (result ≤ length bytes.now) × (0 < self.old.left → 0 < length bytes.now → 0 < result) }
         ensures front { (rest : List ℕ) → front most_read self.old.point self.old.left (bytes.now ++ rest)
@@ -49,7 +49,7 @@ impl Limit {
     }
 }
 
-/// A reader that reads no further into a record of a text than a record may go on, and then is at its end.
+/// A reader that ends with its text, or earlier, where a record has more bytes than are read of one.
 #[derive(Drop)]
 pub struct FrontReader<R> {
     inner: R,
@@ -57,7 +57,7 @@ pub struct FrontReader<R> {
 }
 
 impl<R: Read> FrontReader<R> {
-    /// A reader of the front of a text.
+    /// A reader of the front of a text, from its start.
     pub fn new(inner: R) -> Self
         ensures { front_left R.remaining result ≡ option_map front_of (R.remaining inner) }
     {
@@ -86,29 +86,29 @@ impl<R: Read> Read for FrontReader<R> {
     }
 }
 
-/// Where a text of records stands.
+/// The state of the scanner that finds where records end.
 #[derive(Clone, Copy, Debug, PartialEq, Eq)]
 pub(crate) enum Point {
-    /// At its start, where a byte order mark may stand.
+    /// At the start of the text, where there can be a byte order mark.
     Start,
     /// After the first byte of a byte order mark.
     FirstOfMark,
-    /// After the first two.
+    /// After the first two bytes of a byte order mark.
     SecondOfMark,
-    /// Before a record, or after the last.
+    /// Before a record, or after the last one.
     Between,
     /// Before a field that is not the first of its record.
     Field,
-    /// In a field, and in no quotation marks.
+    /// In a field, outside quotation marks.
     Plain,
-    /// In quotation marks.
+    /// Inside quotation marks.
     Quoted,
-    /// After a quotation mark in quotation marks: it closes them, or is the first of two.
+    /// After a quotation mark inside quotation marks: it closes them, or is the first of two that stand for one.
     Closed,
 }
 
 impl Point {
-    /// The point after a byte.
+    /// The state after a byte.
     pub(crate) fn after(self, byte: u8) -> Point
         ensures { result ≡ point_after self byte }
     {

@@ -1,4 +1,4 @@
-//! The sums of an export, row by row, and why one is not held.
+//! The sums of an export, row by row, and why a row is refused.
 ghost use Rattle.std.specs.Ordering.{eq_by_cmp};
 ghost use Rattle.std.specs.Prelude.{◌≡◌, Some, IsErrOf, true, ◌≢◌, ◌++◌, ◌∷◌, [], ◌||◌, ℕ, List, MatchResult, IfOk, false, ◌<◌, ◌≤◌, ◌^◌};
 ghost use Rattle.std.specs.Prelude.{Option, IfSome, MatchOption, length};
@@ -29,14 +29,15 @@ use zh_returns::{Reason, Row, RowFault, unfit};
 use zh_text::numeral;
 use zh_totals::{Change, Totals};
 
-/// The rows of an export: how many there are, and for each list in each constituency the votes of them all.
+/// The number of rows in an export, and the sum of their votes for each list in each constituency.
 #[derive(Drop)]
 pub struct HeldSums<'s> {
     pub rows: u32,
     pub totals: Totals<'s>,
 }
 
-/// Reads an export: its rows, in any order, and their sums. One record is held at a time, and 16,386 are read at most.
+/// Reads an export and sums up its rows, which can be in any order. Holds one record at a time and reads at most
+/// 16,386.
 pub fn read_held<'s, R: Read>(
     alloc: Global,
     setup: &'s Setup,
@@ -53,14 +54,14 @@ pub fn read_held<'s, R: Read>(
     })
 }
 
-/// The keys of the rows read so far, and their sums.
+/// The keys of the rows that were read so far, and the sums of their votes.
 #[derive(Drop)]
 pub(crate) struct RunningSums<'s> {
     keys: BTreeSet<(u32, u32)>,
     totals: Totals<'s>,
 }
 
-/// Notes the key of a row, which no row before it may have.
+/// Adds the key of a row. A key that an earlier row has is refused.
 fn note_key(keys: &mut BTreeSet<(u32, u32)>, municipality: u32, list: u32) -> Result<(), LoadFault>
     ensures { (rows : List HeldRow) → AreKeysOf rows keys.old → MatchResult result
         (λ _. (holds_key rows (municipality, list) ≡ false)
@@ -75,7 +76,7 @@ fn note_key(keys: &mut BTreeSet<(u32, u32)>, municipality: u32, list: u32) -> Re
 }
 
 impl<'s> RunningSums<'s> {
-    /// No row was read yet.
+    /// The keys and sums of no rows.
     pub(crate) fn new(alloc: Global, setup: &'s Setup) -> Result<RunningSums<'s>, AllocError>
         ensures { IfOk result (HasTaken setup.now []) }
     {
@@ -85,7 +86,7 @@ impl<'s> RunningSums<'s> {
         })
     }
 
-    /// Notes one row more.
+    /// Adds one row.
     fn note(&mut self, row: &HeldRow) -> Result<(), LoadFault>
         requires readable { IsHeldRow row.now }
         requires taken { (canton : Canton) × (rows : List HeldRow) × HasTaken canton rows self.old }
@@ -113,7 +114,7 @@ impl<'s> RunningSums<'s> {
         Ok(())
     }
 
-    /// The sums.
+    /// The sums of the rows.
     pub(crate) fn totals(self) -> Totals<'s>
         ensures { result ≡ self.entry.totals }
     {
@@ -132,7 +133,7 @@ impl<'s> Takes for RunningSums<'s> {
     ghost holds = { λ canton sums rows. HasTaken canton rows sums };
 
     fn take(&mut self, record: &ByteRecord) -> Result<(), LoadFault> {
-        // So its rows are few.
+        // The limits of a set-up bound the number of its rows.
         let setup = self.totals.setup();
         let is_small = setup.municipalities() <= 512 && setup.groups() <= 32;
         prove!(is_small);
@@ -140,7 +141,7 @@ impl<'s> Takes for RunningSums<'s> {
     }
 }
 
-/// What is held under a municipality and a list: a replacement number from 1, and the votes, or none where the list is
+/// What is held for a municipality and a list: the replacement number, from 1, and the votes, or `None` if the list is
 /// withdrawn.
 #[derive(Clone, Copy, Debug, PartialEq, Eq)]
 pub struct HeldRow {
@@ -150,7 +151,7 @@ pub struct HeldRow {
     pub votes: Option<u32>,
 }
 
-/// The votes that a field says: a numeral, or that the list is withdrawn.
+/// The votes in a field, which is a numeral or `withdrawn`.
 fn votes_in(field: &[u8]) -> Option<Option<u32>>
     ensures { MatchOption result
         ((votes : Option ℕ) → IfSome votes (λ n. n < 2 ^ 32) → field.now ≢ votes_field votes)
@@ -163,7 +164,7 @@ fn votes_in(field: &[u8]) -> Option<Option<u32>>
     Some(Some(votes))
 }
 
-/// The row that four fields say.
+/// The row in a record of four fields.
 fn held_row_in(record: &ByteRecord) -> Option<HeldRow>
     requires { length (fields_of «record».now) ≡ 4 }
     ensures { MatchOption result
@@ -179,7 +180,7 @@ fn held_row_in(record: &ByteRecord) -> Option<HeldRow>
     if row.number == 0 { None } else { Some(row) }
 }
 
-/// The row of a record.
+/// The row of a record, or why the record is not a row.
 fn held_row_of(record: &ByteRecord) -> Result<HeldRow, LoadFault>
     ensures { MatchResult result
         (λ row. IsHeldRow row × (fields_of «record».now ≡ held_fields row))
@@ -191,12 +192,12 @@ fn held_row_of(record: &ByteRecord) -> Result<HeldRow, LoadFault>
     held_row_in(record).ok_or(LoadFault::Syntax)
 }
 
-/// What is wrong with a record.
+/// What is wrong with a record of an export.
 #[derive(Clone, Copy, Debug, PartialEq, Eq)]
 pub enum HeldFault {
-    /// The first record does not name the columns, or one does not have four fields or is too long.
+    /// The first record is missing or does not name the columns, or a record does not have four fields or is too long.
     Csv,
-    /// A field is no numeral, or a replacement number is 0.
+    /// A field is neither a numeral nor, for votes, `withdrawn`; or a replacement number is 0.
     Syntax,
     /// The set-up has no such municipality.
     Municipality,
@@ -204,12 +205,13 @@ pub enum HeldFault {
     List,
     /// More than 1,000,000,000 votes.
     Votes,
-    /// A record before it has its municipality and list.
+    /// An earlier record has the same municipality and list.
     Twice,
 }
 
 impl HeldFault {
-    /// What is wrong with the record that a fault is of. Refused memory and a reader that fails are of none.
+    /// What is wrong with the record, given the fault. `None` if memory was refused or the reader failed: then no
+    /// record is wrong.
     pub fn of(fault: LoadFault) -> Option<HeldFault>
         ensures { result ≡ named fault }
     {
@@ -224,7 +226,7 @@ impl HeldFault {
         }
     }
 
-    /// Its name, as reports spell it.
+    /// The name of the fault in reports: at most 17 bytes.
     pub fn name(self) -> &'static str
         ensures name { result.now ≡ held_name self }
         ensures short { length result.now ≤ 17 }

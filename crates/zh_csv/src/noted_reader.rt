@@ -1,4 +1,4 @@
-//! A reader that notes whether a read failed, and is over then.
+//! A reader that notes whether a read failed. From then on every read fails.
 
 ghost use Rattle.std.specs.Prelude.{◌≡◌, ◌↔◌, ◌⊎◌, true, false, IsErr};
 ghost use Rattle.std.specs.Io.{ReadsAtMost};
@@ -9,8 +9,8 @@ use std::io::{ErrorKind, Read, Result};
 
 /// A reader that notes whether a read failed.
 ///
-/// The note is set by a read that fails, and by nothing else; it is never cleared. Once it is set nothing more is asked of
-/// the reader below, and each read fails.
+/// Only a read that fails sets the note, and nothing clears it. Once it is set, every read fails, and the underlying
+/// reader is not called any more.
 #[derive(Drop)]
 pub struct NotedReader<R> {
     inner: R,
@@ -18,7 +18,7 @@ pub struct NotedReader<R> {
 }
 
 impl<R: Read> NotedReader<R> {
-    /// A reader of which no read has failed yet.
+    /// A reader on which no read has failed yet.
     pub fn new(inner: R) -> Self
         ensures over { inner_reader result ≡ inner }
         ensures fresh { has_failed result ≡ false }

@@ -1,4 +1,4 @@
-//! The records of a text, and their fields.
+//! The records of a text and their fields.
 ghost use Rattle.std.specs.Bool.{MatchBool};
 ghost use Rattle.std.specs.Prelude.{◌≡◌, ◌++◌, ◌∷◌, [], ℕ, List, Some, IfOk, option_map, ◌≢◌, ◌↔◌, ◌<◌, IsTrue, MatchResult, MatchOption};
 ghost use Rattle.std.specs.Prelude.{get_or, length};
@@ -18,17 +18,17 @@ use std::io::Read;
 use zh_returns::Row;
 use zh_text::numeral;
 
-/// Why no record is given, where the text has not ended.
+/// Why there is no record, although the text has not ended.
 #[derive(Clone, Copy, Debug, PartialEq, Eq)]
 pub enum ReadFault {
-    /// Memory ran out.
+    /// An allocation was refused.
     Memory,
     /// The reader failed.
     Read,
 }
 
-/// A reader of the records of the front of a text, none of which it takes for a header row, and each of which may have another
-/// length.
+/// A CSV reader of the front of a text. It treats no record as a header row and accepts any number of fields in a
+/// record.
 pub fn reader_of<R: Read>(alloc: Global, text: R) -> Reader<FrontReader<R>>
     ensures { (front : List ℕ) → option_map front_of (R.remaining text) ≡ Some front
         → HasRead (front_left R.remaining) front [] result }
@@ -40,16 +40,16 @@ pub fn reader_of<R: Read>(alloc: Global, text: R) -> Reader<FrontReader<R>>
         .from_reader(alloc, front)
 }
 
-/// The fault for an error of the reader.
+/// The fault for an error of the CSV reader.
 fn fault_by(error: &Error) -> ReadFault {
     match error.kind() {
         ErrorKind::OutOfMemory => ReadFault::Memory,
-        // Where records may have any length, nothing else fails.
+        // If records can have any number of fields, no other error is left than that of the underlying reader.
         _ => ReadFault::Read,
     }
 }
 
-/// Reads the next record, and returns whether there was one.
+/// Reads the next record. Returns whether there was one.
 pub fn next_record<R: Read>(
     reader: &mut Reader<R>,
     record: &mut ByteRecord,
@@ -63,13 +63,13 @@ pub fn next_record<R: Read>(
     }
 }
 
-/// How many fields a record has.
+/// The number of fields in a record.
 pub const FIELDS: usize = 4;
 
-/// The most bytes of a record, those of its fields and one for the end of each.
+/// The most bytes of a record: those of its fields, and one more for each field.
 pub(crate) const MOST_BYTES: usize = 1_000;
 
-/// A field of a record.
+/// The field of a record at an index, from 0.
 pub fn field(record: &ByteRecord, place: usize) -> &[u8]
     requires { place < length (fields_of «record».now) }
     ensures { result.now ≡ get_or (fields_of «record».now) place [] }
@@ -77,7 +77,7 @@ pub fn field(record: &ByteRecord, place: usize) -> &[u8]
     record.get(place).unwrap()
 }
 
-/// Whether four fields are the names of the columns.
+/// Whether these four fields are the names of the columns.
 fn are_names(municipality: &[u8], list: &[u8], number: &[u8], votes: &[u8]) -> bool
     ensures { IsTrue result ↔ (municipality.now ∷ list.now ∷ number.now ∷ votes.now ∷ [] ≡ names) }
 {
@@ -87,7 +87,7 @@ fn are_names(municipality: &[u8], list: &[u8], number: &[u8], votes: &[u8]) -> b
         && votes == b"votes".as_slice()
 }
 
-/// Whether a record is the names of the columns.
+/// Whether a record consists of the names of the columns.
 pub fn is_names(record: &ByteRecord) -> bool
     ensures { IsTrue result ↔ (fields_of «record».now ≡ names) }
 {
@@ -100,7 +100,7 @@ pub fn is_names(record: &ByteRecord) -> bool
         )
 }
 
-/// The row whose numerals four fields are.
+/// The row in a record of four fields.
 fn row_in(record: &ByteRecord) -> Option<Row>
     requires { length (fields_of «record».now) ≡ FIELDS }
     ensures { MatchOption result
@@ -116,7 +116,7 @@ fn row_in(record: &ByteRecord) -> Option<Row>
     if row.number == 0 { None } else { Some(row) }
 }
 
-/// Whether a record may be that of a row: it has four fields, and no more bytes than a record may have.
+/// Whether a record can be that of a row: it has four fields, and at most `MOST_BYTES` bytes.
 pub fn may_be_row(record: &ByteRecord) -> bool
     ensures { result ≡ may_be_row (fields_of «record».now) }
 {
@@ -132,7 +132,7 @@ pub fn may_be_row(record: &ByteRecord) -> bool
     front.saturating_add(back) <= MOST_BYTES - FIELDS
 }
 
-/// The row of a record, or why it is none.
+/// The row of a record, or why the record is not a row.
 pub fn row_of(record: &ByteRecord) -> Result<Row, LoadFault>
     ensures { MatchResult result
         (λ row. IsReadable row × (fields_of «record».now ≡ fields row))

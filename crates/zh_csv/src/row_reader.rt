@@ -1,4 +1,4 @@
-//! The rows of a text, read one after the other.
+//! The rows of a text, read one after another.
 
 ghost use Rattle.std.specs.Prelude.{◌≡◌, ◌≢◌, ◌<◌, ◌⊎◌, ◌++◌, ◌∷◌, [], ℕ, List, Some, IsErrOf, MatchResult, length, option_map, true};
 ghost use Rattle.csv.specs.Records.{fields_of};
@@ -16,21 +16,21 @@ use csv::{ByteRecord, Reader};
 use std::alloc::Global;
 use std::io::Read;
 
-/// What takes rows of one kind, one after the other, and holds them together.
+/// A type that takes rows of one kind, one after another, and holds them.
 pub trait Takes {
     ghost use Rattle.zh_districts.specs.Canton.{Canton};
     ghost use Rattle.zh_csv.specs.Reading.{RowKind};
 
-    /// A row.
+    /// The type of a row.
     type Row;
 
-    /// The kind of its rows, by the set-up.
+    /// The kind of its rows, given the set-up.
     ghost kind: { Canton → RowKind Self.Row };
 
-    /// It holds these rows of a set-up.
+    /// Says that these rows of a set-up are held.
     ghost holds: { Canton → Self → List Self.Row → Type 0 };
 
-    /// Takes the row of a record, after those that it holds.
+    /// Takes the row in a record, after those that it already holds.
     fn take(&mut self, record: &ByteRecord) -> Result<(), LoadFault>
         requires { (canton : Canton) × (rows : List Self.Row) × holds canton self.old rows }
         ensures { (canton : Canton) (rows : List Self.Row) → holds canton self.old rows → MatchResult result
@@ -41,10 +41,10 @@ pub trait Takes {
             ⊎ IsUnheld (kind canton) rows (fields_of «record».now) fault)) };
 }
 
-/// The most rows: one for each list in each municipality.
+/// The most rows that there can be: one for each list in each municipality.
 const MOST_HELD: u32 = 16_384;
 
-/// Takes the rows that follow the names of the columns, and returns how many they are.
+/// Takes the rows after the names of the columns. Returns their number.
 fn take_rows<R: Read, T: Takes>(
     reader: &mut Reader<R>,
     record: &mut ByteRecord,
@@ -63,7 +63,7 @@ fn take_rows<R: Read, T: Takes>(
     unreachable!()
 }
 
-/// Takes the rows of the front of a text, and returns how many they are.
+/// Takes the rows in the front of a text. Returns their number.
 fn take_text<R: Read + Drop, T: Takes>(
     alloc: Global,
     text: R,
@@ -81,8 +81,8 @@ fn take_text<R: Read + Drop, T: Takes>(
     take_rows(&mut reader, &mut record, taker)
 }
 
-/// Takes the rows of a text, and returns how many they are: its first record is the names of the columns, and each further one
-/// that of a row. One record is held at a time, and 16,386 are read at most.
+/// Takes the rows of a text and returns their number. The first record is the names of the columns, and each further
+/// record is a row. Holds one record at a time and reads at most 16,386.
 pub fn read_rows<R: Read, T: Takes>(
     alloc: Global,
     text: &mut NotedReader<R>,
@@ -94,7 +94,7 @@ pub fn read_rows<R: Read, T: Takes>(
     ensures read { IsErrOf result LoadFault.Read → has_failed text.new ≡ true }
 {
     match take_text(alloc, &mut *text, taker) {
-        // A read that fails is noted, so here it was memory that was refused.
+        // A failed read is noted. There was none, so this error means that memory was refused.
         Err(LoadFault::Read) if !text.has_failed() => Err(LoadFault::Memory),
         taken => taken,
     }

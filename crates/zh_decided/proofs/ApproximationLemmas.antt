@@ -1,4 +1,4 @@
--- A squaring keeps the bounds.
+-- One squaring keeps the bounds of the approximation.
 use Rattle.std.proofs.Common.{◌≡◌, ℕ, suc, ◌+◌, ◌-◌, ◌*◌, ◌%◌, ◌^◌, ◌<◌, ◌≤◌, refl, sym, ap, ◌∙◌, Bool, true, false, arith}
 use Rattle.std.proofs.lemmas.Nat.{leading_top, pow-add, shl_whole}
 use Rattle.std.proofs.Math.Nat.{mul-lt-mul_of_pos_right, mul-le-mul, mul-le-mul_left, mul-le-mul_right, le_of_mul-le-mul_right, one-le-pow, pow-le-pow_right}
@@ -7,26 +7,26 @@ use lib.Count.{count_leading_zeros}
 use Rattle.zh_decided.specs.Logarithms.{IsCutSquare, IsLog, power}
 use Rattle.zh_decided.proofs.PowerLemmas.{power-add, power-four, power-is, power-one, power-two, power-zero, power_positive}
 
--- mantissa * 2^(logarithm - 63) is n^(2^i) or less, by at most 4 (2^i - 1) of 2^63 parts
+-- mantissa * 2^(logarithm - 63) is at most n^(2^i) and smaller than it by a factor of at most 1 + 4 (2^i - 1) / 2^63
 pub record Approximates (n i mantissa logarithm : ℕ) : Type 0 where
   pub at_most : mantissa * power 2 logarithm ≤ 2 ^ 63 * power n (2 ^ i)
   pub nearly : 2 ^ 126 * power n (2 ^ i) ≤ mantissa * power 2 logarithm * (2 ^ 63 + 4 * (2 ^ i - 1))
 
--- from below: x ≤ b p and y b ≤ x x
+-- the upper bound: if x ≤ b p and y b ≤ x x, then y ≤ b p p
 pub squared_at_most : (b p x y : ℕ) → 0 < b → x ≤ b * p → y * b ≤ x * x → y ≤ b * (p * p)
 squared_at_most b p x y positive h k =
     let square : x * x ≤ b * p * (b * p) = mul-le-mul h h in
     let both : y * b ≤ b * (p * p) * b = omega arith in
     le_of_mul-le-mul_right both positive
 
--- the error doubles, and rounding adds 3 at most
+-- the error doubles, and truncation adds at most 3
 grown : (b a : ℕ) → a * a ≤ b → 2 * a + 1 ≤ b → (b + 1) * ((b + a) * (b + a)) ≤ b * b * (b + (2 * a + 3))
 grown b a square small =
     let s : a * a * (b + 1) ≤ b * (b + 1) = mul-le-mul_right (b + 1) square in
     let t : (2 * a + 1) * b ≤ b * b = mul-le-mul_right b small in
     omega arith
 
--- from above: x x ≤ z b, and z b ≤ y (b + 1) where z b is what y was cut from
+-- the lower bound, if x x ≤ z b, and truncation leaves y from z with z b ≤ y (b + 1)
 pub squared_nearly : (b a p x y z : ℕ) → 0 < b → a * a ≤ b → 2 * a + 1 ≤ b → b * b * p ≤ x * (b + a) → x * x ≤ z * b →
     z * b ≤ y * (b + 1) → b * b * (p * p) ≤ y * (b + (2 * a + 3))
 squared_nearly b a p x y z positive small-square small h cut rounded =
@@ -40,7 +40,7 @@ squared_nearly b a p x y z positive small-square small h cut rounded =
 exponent : (i j : ℕ) → i ≤ j → 2 ^ i ≤ 2 ^ j
 exponent i j le = pow-le-pow_right (omega arith) le
 
--- one squaring more
+-- one more squaring
 squared : (n i t old l m : ℕ) → i < 30 → 2 ^ 63 ≤ m → m * (2 ^ 63 * power 2 t) ≤ old * old → old * old < (m + 1) * (2 ^ 63 * power 2 t) →
     Approximates n i old l → Approximates n (i + 1) m (2 * l + t)
 squared n i t old l m few least floor ceiling A =
@@ -73,7 +73,7 @@ squared n i t old l m few least floor ceiling A =
       nearly = rw (scaled, power-is, twice) (omega arith);
     }
 
--- the square that the code takes
+-- the same for the square that the code computes
 pub squared_by_code : (n i m l q t : ℕ) (twice : Bool) → t ≡ from_bool twice → i < 30 → IsCutSquare m q twice → Approximates n i m l →
     Approximates n (i + 1) q (2 * l + t)
 squared_by_code n i m l q t true e few S A =
@@ -85,7 +85,7 @@ pub at_most_one : (t : ℕ) (twice : Bool) → t ≡ from_bool twice → t ≤ 1
 at_most_one t true e = omega arith
 at_most_one t false e = omega arith
 
--- a number shifted to the top of 64 bits
+-- the start: a number shifted to the top of 64 bits
 pub begins : (n r : ℕ) → 1 ≤ n → n < 2 ^ 64 → r ≡ count_leading_zeros 64 n →
     (r ≤ 63) × (2 ^ 63 ≤ n * 2 ^ r % 2 ^ 64) × (n * 2 ^ r % 2 ^ 64 < 2 ^ 64) × Approximates n 0 (n * 2 ^ r % 2 ^ 64) (63 - r)
 begins n r some most e =
@@ -108,7 +108,7 @@ begins n r some most e =
       },
     )
 
--- thirty squarings
+-- the end: after thirty squarings there is a logarithm
 pub ends : (n m l : ℕ) → 2 ^ 63 ≤ m → m < 2 ^ 64 → Approximates n 30 m l → IsLog 0 2 n l
 ends n m l least most A =
     let w : ℕ = power 2 l in

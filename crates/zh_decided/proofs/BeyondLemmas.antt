@@ -1,4 +1,4 @@
--- Why no divisors in some ranges give seats for which no sweep stands still within the limits.
+-- Why no divisors in the ranges give the seats, if the sweep within the limits does not end at potentials.
 use Rattle.std.proofs.Common.{◌≡◌, ℕ, ◌+◌, ◌-◌, ◌*◌, ◌^◌, ◌<◌, ◌≤◌, List, slice_index, inl, inr, ap, subst, arith}
 use Rattle.std.proofs.lemmas.Bool.{cases_lt}
 use Rattle.std.proofs.Math.Nat.{mul-le-mul_right}
@@ -23,7 +23,7 @@ use Rattle.zh_decided.specs.Tables.{AreLogTables}
 use Rattle.zh_decided.proofs.CellLemmas.{cheap, dear}
 use Rattle.zh_decided.proofs.TableLemmas.{price-is}
 
--- 1.05 is above 2^20 millionths by more than 738 / 737, and 0.9999 below 1 by 10000 / 9999
+-- 1.05 is more than 738 / 737 times 2^20 millionths, and 1 is 10000 / 9999 times 0.9999
 low-factor : HasFactor 737 1456908
 low-factor = factor 737 1456908 (omega arith) (omega arith)
 
@@ -42,7 +42,7 @@ below-most : (n most l : ℕ) → 0 < n → 10000 * n ≤ 9999 * most → IsLog 
 below-most n most l some le L =
     omega (arith, apart_by_factor 9999 135832 0 1 0 2 n most (log_of n) l high-factor (log_of-is n some) L le)
 
--- the logarithms of divisors that give the seats are fair but for the slacks, and for what logarithms cost
+-- the logarithms of divisors that give the seats are fair potentials, up to the slacks and the errors of the logarithms
 fair-logs : (q : Question) (l : Logs) (seats : List ℕ) (bounds : Bounds) (of_rows of_columns : List ℕ) (w : ℕ) → AreLogs l → AreLogTables q l →
     AreSeatTotals q.rows q.row_totals → FitsVotes q seats → IsLog 0 2 (10 ^ 12) w →
     ((d : ℕ) → d < q.rows → log_of (slice_index of_rows d) ≤ 2 ^ 60 + w) → IsStrict q (millionths of_rows of_columns) seats →
@@ -79,7 +79,7 @@ fair-logs q l seats bounds of_rows of_columns w A T totals F W small S = record 
       ];
 }
 
--- where a sweep from 2^20 millionths on leaves the limits, no divisors in the ranges give the seats
+-- if a sweep from 2^20 millionths on leaves the limits, no divisors in the ranges give the seats
 pub out-of-range : (q : Question) (l : Logs) (seats : List ℕ) (bounds : Bounds) → q.columns ≤ 32 → AreLogs l → AreLogTables q l →
     AreSeatTotals q.rows q.row_totals → FitsVotes q seats → IsBox 20 bounds →
     AreOut (priced q l seats) bounds q.columns (λ g. bounds.column_cap) → NoneInRange q seats
@@ -109,7 +109,7 @@ out-of-range q l seats bounds few A T totals F B out = λ of_rows of_columns ran
       | inr column ↦ absurd (omega (arith, column.2, column-low column.0 column.1, B.column_floor))
     ]
 
--- seats that stand still at these slacks have no cycle in a box with the same
+-- if a sweep with these slacks ends at potentials, there is no cycle in a box with the same slacks
 pub no-cycle-in-box : (q : Question) (l : Logs) (seats : List ℕ) (bounds : Bounds) (p : Potentials) (cycle : Cycle) → IsBox 20 bounds →
     StandsFree (priced q l seats) 4102 6 p → IsCycle (priced q l seats) (bounds.given + bounds.taken) cycle → ⊥
 no-cycle-in-box q l seats bounds p cycle B S C =
@@ -118,7 +118,7 @@ no-cycle-in-box q l seats bounds p cycle B S C =
     S.still.fair)
     C
 
--- the seats are the only ones, so that none others are given
+-- the seats are the only ones, so divisors in the ranges give no others either
 pub none-at-all : (q : Question) (x : Divisors) (seats : List ℕ) → IsStrict q x seats → NoneInRange q seats → (others : List ℕ) → NoneInRange q others
 none-at-all q x seats strict none others of_rows of_columns range S =
     let only : others ≡ seats

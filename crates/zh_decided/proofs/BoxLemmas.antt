@@ -16,7 +16,7 @@ use Rattle.zh_decided.specs.Boxes.{HaveLogs, IsBox}
 use Rattle.zh_decided.specs.Tables.{AreLogTables}
 use Rattle.zh_decided.proofs.ScaledLemmas.{AreScaled, strict}
 
--- logarithms below those of the limits are reached
+-- the logarithms of the divisors are at most those of the limits
 pub row-reached : (bits : ℕ) (bounds : Bounds) (x : ℕ) → IsBox bits bounds → bounds.row_floor ≤ x →
     power 2 (bounds.row_cap + bits * log_unit - x) ≤ power (10 ^ 18) log_unit
 row-reached bits bounds x B floor = reaches 2 (10 ^ 18) B.most (bounds.row_cap + bits * log_unit - x) B.most_log (omega (arith, B.row_cap, B.row_floor))
@@ -24,7 +24,7 @@ row-reached bits bounds x B floor = reaches 2 (10 ^ 18) B.most (bounds.row_cap +
 pub column-reached : (bits : ℕ) (bounds : Bounds) (y : ℕ) → IsBox bits bounds → y ≤ bounds.column_cap → power 2 y ≤ power (10 ^ 12) log_unit
 column-reached bits bounds y B cap = reaches 2 (10 ^ 12) B.scale y B.scale_log (omega (arith, B.column_cap))
 
--- numbers with equal logarithms
+-- numbers with these logarithms have equal logarithms too
 pub same-logs : (bits most n : ℕ) (numbers : List ℕ) (one other : ℕ → ℕ) → n ≤ 32 → ((i : ℕ) → i < 32 → one i ≡ other i) →
     HaveLogs bits most n numbers one → HaveLogs bits most n numbers other
 same-logs bits most n numbers one other few same H = record {
@@ -64,7 +64,7 @@ within-limits q bits m n of_rows of_columns row_logs column_logs rows-are column
   columns = within bits (10 ^ 12) n q.columns of_columns column_logs columns-are C;
 }
 
--- they give the seats for which it stood still
+-- the divisors give the seats of the sweep that ended at these potentials
 pub gives-strictly : (q : Question) (l : Logs) (seats : List ℕ) (bits m n top : ℕ) (bounds : Bounds) (p : Potentials) (of_rows of_columns : List ℕ) →
     bits ≤ 20 → m ≡ q.rows → n ≡ q.columns → top ≡ bounds.row_cap + bits * log_unit → AreLogs l → AreLogTables q l →
     AreSeatTotals q.rows q.row_totals → FitsVotes q seats → IsBox bits bounds → IsStill (priced q l seats) bounds p →
@@ -78,6 +78,6 @@ gives-strictly q l seats bits m n top bounds p of_rows of_columns few rows-are c
     (scaled-box q bits m n top bounds p of_rows of_columns rows-are columns-are top-is B capped R C) S.fair (omega (arith, B.given))
     (omega (arith, B.taken))
 
--- the least number of a box is within its limits
+-- the least number of a box is within the limits
 pub least-within : (bits most : ℕ) → bits ≤ 20 → 2 ^ 20 ≤ most → 2 ^ bits ≤ most
 least-within bits most few room = let le : 2 ^ bits ≤ 2 ^ 20 = pow-le-pow_right {n = 2} (omega arith) {i = bits} {j = 20} few in omega arith

@@ -1,4 +1,5 @@
--- From logarithms to one cell: votes v, an odd number o of halves, the square S of the scale, and divisors R and C.
+-- From logarithms to the rounding of one cell: votes v, an odd number o of halves, the square S of the scale, and divisors R
+-- and C.
 use Rattle.std.proofs.Common.{◌≡◌, ℕ, ◌+◌, ◌*◌, ◌<◌, ◌≤◌, arith}
 use Rattle.zh_decided.specs.Logarithms.{IsLog}
 use Rattle.zh_decided.proofs.RoundingLemmas.{HasFactor}
@@ -13,20 +14,20 @@ halves-log e b o R C O r c L LR LC =
     let errors-below : 2 + (b + b) ≡ 2 + 2 * b = omega arith in
     rw (errors, errors-below) at (of_product 0 2 (e + e) (b + b) o (R * C) O (r + c) L (of_product e b e b R C r c LR LC))
 
--- a next seat that is too dear by what logarithms and rounding cost
+-- a next seat is too expensive by the errors of the logarithms and of the rounding
 pub below-upper : (e v o S R C V O w r c : ℕ) → IsLog 0 2 (2 * v) V → IsLog 0 2 S w → IsLog 0 2 o O → IsLog e 2 R r → IsLog e 2 C c →
     V + w + 4 + 2 * e ≤ O + (r + c) → 2 * (v * S) < o * (R * C)
 below-upper e v o S R C V O w r c L K M LR LC le =
     less_by_logs 0 4 (2 * e) 6 (2 * (v * S)) (o * (R * C)) (V + w) (O + (r + c)) (votes-log v S V w L K) (halves-log e 2 o R C O r c M LR LC) le
 
--- a last seat that is cheap enough
+-- a last seat is cheap enough
 pub above-lower : (e v o S R C V O w r c : ℕ) → IsLog 0 2 (2 * v) V → IsLog 0 2 S w → IsLog 0 2 o O → IsLog e 2 R r → IsLog e 2 C c →
     O + (r + c) + 6 ≤ V + w → o * (R * C) < 2 * (v * S)
 above-lower e v o S R C V O w r c L K M LR LC le =
     less_by_logs (2 * e) 6 0 4 (o * (R * C)) (2 * (v * S)) (O + (r + c)) (V + w) (halves-log e 2 o R C O r c M LR LC) (votes-log v S V w L K)
     (omega arith)
 
--- the same, but for a factor
+-- the same up to the factor (f + 1) / f
 pub nearly-below-upper : (f s e v o S R C V O w r c : ℕ) → HasFactor f s → IsLog 0 2 (2 * v) V → IsLog 0 2 S w → IsLog 0 2 o O → IsLog e 2 R r →
     IsLog e 2 C c → V + w + 4 + 2 * e ≤ O + (r + c) + s → f * (2 * (v * S)) < (f + 1) * (o * (R * C))
 nearly-below-upper f s e v o S R C V O w r c H L K M LR LC le =
@@ -39,7 +40,7 @@ nearly-above-lower f s e v o S R C V O w r c H L K M LR LC le =
     nearly_less_by_logs f s (2 * e) 6 0 4 (o * (R * C)) (2 * (v * S)) (O + (r + c)) (V + w) H (halves-log e 2 o R C O r c M LR LC)
     (votes-log v S V w L K) (omega arith)
 
--- back from a cell to logarithms: divisors have logarithms with errors of one unit below
+-- from the rounding of a cell back to logarithms; those of divisors are less than one unit too low
 pub dear : (v o S R C V O w r c : ℕ) → IsLog 0 2 (2 * v) V → IsLog 0 2 S w → IsLog 0 2 o O → IsLog 0 1 R r → IsLog 0 1 C c →
     2 * (v * S) < o * (R * C) → V + w < O + (r + c) + 4
 dear v o S R C V O w r c L K M LR LC lt =

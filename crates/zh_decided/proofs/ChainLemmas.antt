@@ -1,9 +1,9 @@
--- Sums along a chain, and more things than places.
+-- Sums along a chain, and the pigeonhole principle.
 use Rattle.std.proofs.Common.{◌≡◌, ◌≢◌, ℕ, zero, suc, ◌+◌, ◌*◌, ◌<◌, cond, eqb, inl, inr, sym, ap, ◌∙◌, arith, add-one}
 use Rattle.std.proofs.lemmas.Bool.{cases_eq, eq-eqb, ne_eqb}
 use Rattle.zh_divisors.specs.Sums.{sum_to}
 
--- each value and what is taken there are the next value and what is given there, but for s: so it is along the whole chain
+-- if v k + last k + s = v (k + 1) + next k in each step, the same holds for the sums along the whole chain
 pub along : (n s : ℕ) (v last next : ℕ → ℕ) → ((k : ℕ) → k < n → v k + last k + s ≡ v (k + 1) + next k) →
     v 0 + sum_to n last + n * s ≡ v n + sum_to n next
 along zero s v last next each = omega arith
@@ -12,7 +12,7 @@ along (suc n) s v last next each =
     let here : v n + last n + s ≡ v (n + 1) + next n = each n (omega arith) in
     rw (← add-one) (omega (arith, before, here))
 
--- the first value in place of n, else itself
+-- `other` in place of the value n, and any other value unchanged
 swapped : ℕ → ℕ → ℕ → ℕ
 swapped n other value = cond (eqb value n) other value
 
@@ -24,7 +24,7 @@ swapped-else : (n other value : ℕ) → value ≢ n → swapped n other value �
 unfolding swapped
 swapped-else n other value differ = ap (λ b. cond b other value) (ne_eqb value n differ)
 
--- n + 1 things do not have different places below n
+-- n + 1 things do not all have different places below n (pigeonhole principle)
 pub too_many : (n : ℕ) (f : ℕ → ℕ) → ((k : ℕ) → k < n + 1 → f k < n) → ((j k : ℕ) → j < k → k < n + 1 → f j ≢ f k) → ⊥
 too_many zero f within differ = omega (arith, within 0 (omega arith))
 too_many (suc n) f within differ =

@@ -1,4 +1,4 @@
--- A matrix with fair potentials without slacks is cheapest.
+-- The cost of a matrix with fair potentials is least. With slacks, every other matrix costs more.
 use Rattle.std.proofs.Common.{◌≡◌, ℕ, zero, suc, ◌+◌, ◌-◌, ◌*◌, ◌<◌, ◌≤◌, List, inl, inr, sym, ap, ◌∙◌, arith, add-one}
 use Rattle.std.proofs.lemmas.Bool.{cases_lt, cases_order}
 use Rattle.zh_divisors.specs.Sums.{sum_to}
@@ -12,7 +12,7 @@ use Rattle.zh_decided.specs.declared.sweep_bounds.Bounds.{Bounds}
 use Rattle.zh_decided.proofs.CircleLemmas.{one_level_more}
 use Rattle.zh_decided.proofs.CycleTurnLemmas.{cell-fitting}
 
--- prices that rise up to 400
+-- prices that do not fall up to seat 400
 abbrev pub Rise : (ℕ → ℕ) → Type 0
 Rise p = (j : ℕ) → j < 400 → p j ≤ p (j + 1)
 
@@ -22,7 +22,7 @@ risen p s (suc n) rise few =
     let at : s + suc n ≡ s + n + 1 = omega (arith, add-one n) in
     rw at (omega (arith, risen p s n rise (omega arith), rise (s + n) (omega arith)))
 
--- n seats more than s cost no less than their rows give for them
+-- n seats after the first s cost at least n (x - y)
 dearer : (p : ℕ → ℕ) (s n x y : ℕ) → Rise p → s + n ≤ 401 → x ≤ y + p s → sum_to s p + n * x ≤ sum_to (s + n) p + n * y
 dearer p s zero x y rise few next = let at : s + 0 ≡ s = omega arith in rw at (omega arith)
 dearer p s (suc n) x y rise few next =
@@ -32,7 +32,7 @@ dearer p s (suc n) x y rise few next =
     let sums : sum_to (s + suc n) p ≡ sum_to (s + n) p + p (s + n) = ap (λ k. sum_to k p) at ∙ sum_to-suc (s + n) p in
     omega (arith, before, up, next, sums, one_level_more n x, one_level_more n y)
 
--- the last n of t + n seats cost no more than their rows take for them
+-- the last n of t + n seats cost at most n (x - y)
 cheaper : (p : ℕ → ℕ) (t n x y : ℕ) → Rise p → t + n ≤ 401 → (0 < n → y + p (t + n - 1) ≤ x) → sum_to (t + n) p + n * y ≤ sum_to t p + n * x
 cheaper p t zero x y rise few last = let at : t + 0 ≡ t = omega arith in rw at (omega arith)
 cheaper p t (suc n) x y rise few last =
@@ -47,7 +47,7 @@ cheaper p t (suc n) x y rise few last =
     let sums : sum_to (t + suc n) p ≡ sum_to (t + n) p + p (t + n) = ap (λ k. sum_to k p) at ∙ sum_to-suc (t + n) p in
     omega (arith, before, here, sums, one_level_more n x, one_level_more n y)
 
--- s seats of a cell against t of them
+-- with the potentials taken into account, s seats of a cell cost no more than t
 cell-cheapest : (p : ℕ → ℕ) (s t x y : ℕ) → Rise p → s ≤ 400 → t ≤ 400 → x ≤ y + p s → (0 < s → y + p (s - 1) ≤ x) →
     sum_to s p + x * t + y * s ≤ sum_to t p + x * s + y * t
 cell-cheapest p s t x y rise few_s few_t next last = elim (cases_lt s t) [
@@ -70,12 +70,12 @@ prices-rise l k logs j lt = omega (arith, logs.rising j (omega (arith, logs.enou
 total-le : (m n : ℕ) (f h : ℕ → ℕ → ℕ) → ((d g : ℕ) → d < m → g < n → f d g ≤ h d g) → total m n f ≤ total m n h
 total-le m n f h below = sum_to-le m _ _ (λ d dm. sum_to-le n (f d) (h d) (λ g gn. below d g dm gn))
 
--- what the seats of all cells cost, with what their rows and columns ask and give for those of another matrix
+-- the cost of the seats of a cell, plus x for each seat that the other matrix has there, and y for each of its own
 abbrev weighed : Question → Logs → (ℕ → ℕ) → (ℕ → ℕ) → List ℕ → List ℕ → ℕ → ℕ → ℕ
 weighed q l x y seats others d g =
     sum_to (cell q.columns seats d g) (seat_price l (d * q.columns + g)) + x d * cell q.columns others d g + y g * cell q.columns seats d g
 
--- the potentials fall out where the rows and columns have the same totals
+-- the potentials cancel out if both matrices have the same totals
 weighed-alike : (q : Question) (l : Logs) (seats others : List ℕ) (x y : ℕ → ℕ) → FitsVotes q seats → FitsVotes q others →
     total q.rows q.columns (weighed q l x y seats others) + cost q l others
     ≡ total q.rows q.columns (λ d g. sum_to (cell q.columns others d g) (seat_price l (d * q.columns + g)) + x d * cell q.columns seats d g
@@ -99,7 +99,7 @@ weighed-alike q l seats others x y F G =
       total-add q.rows q.columns h (λ d g. x d * s d g),
     )
 
--- cell by cell
+-- the inequality for each cell
 each-weighed : (q : Question) (l : Logs) (bounds : Bounds) (seats others : List ℕ) (x y : ℕ → ℕ) → AreLogs l →
     AreSeatTotals q.rows q.row_totals → AreFair (priced q l seats) bounds 0 0 x y → FitsVotes q seats → FitsVotes q others →
     (d g : ℕ) → d < q.rows → g < q.columns → weighed q l x y seats others d g
@@ -125,7 +125,7 @@ cheapest q l bounds seats others x y logs totals fair F G =
       weighed-alike q l seats others x y F G,
     )
 
--- with slacks no other number of seats of a cell costs as little
+-- with slacks, any other number of seats of a cell costs more
 cell-only : (p : ℕ → ℕ) (s t x y : ℕ) → Rise p → s ≤ 400 → t ≤ 400 → x + 1 ≤ y + p s → (0 < s → y + p (s - 1) + 1 ≤ x) →
     sum_to t p + x * s + y * t ≤ sum_to s p + x * t + y * s → t ≡ s
 cell-only p s t x y rise few_s few_t next last costs = elim (cases_order s t) [
@@ -145,7 +145,7 @@ cell-only p s t x y rise few_s few_t next last costs = elim (cases_order s t) [
       absurd (omega (arith, few, here, more))
 ]
 
--- all terms below others, and their totals not: they are the same
+-- if no term is greater than its counterpart but the total is not smaller, the terms are equal
 same-each : (m n : ℕ) (f h : ℕ → ℕ → ℕ) → ((d g : ℕ) → d < m → g < n → f d g ≤ h d g) → total m n h ≤ total m n f →
     (d g : ℕ) → d < m → g < n → h d g ≤ f d g
 same-each m n f h below least d g dm gn =
@@ -154,7 +154,7 @@ same-each m n f h below least d g dm gn =
     let cells : f d g ≡ h d g = same_terms n (f d) (h d) (λ k kn. below d k dm kn) (omega (arith, rows)) g gn in
     omega (arith, cells)
 
--- with slacks no other matrix costs as little
+-- with slacks, any other matrix costs more
 pub only-cheapest : (q : Question) (l : Logs) (bounds : Bounds) (seats others : List ℕ) (x y : ℕ → ℕ) → AreLogs l →
     AreSeatTotals q.rows q.row_totals → AreFair (priced q l seats) bounds 0 0 x y → 1 ≤ bounds.given → 1 ≤ bounds.taken →
     FitsVotes q seats → FitsVotes q others → cost q l others ≤ cost q l seats →

@@ -1,4 +1,4 @@
--- The circle that a trail closes.
+-- The circle into which a trail is closed.
 use Rattle.std.proofs.Common.{◌≡◌, ℕ, zero, suc, add-one, ◌+◌, ◌-◌, ◌*◌, ◌<◌, ◌≤◌, Some, List, inl, inr, refl, sym, ap, ◌∙◌, arith}
 use Rattle.std.proofs.lemmas.Bool.{cases_eq}
 use Rattle.std.proofs.Math.Nat.{mul-le-mul_left}
@@ -14,7 +14,7 @@ use Rattle.zh_decided.specs.declared.cycles.Trail.{Trail}
 use Rattle.zh_decided.proofs.ChainLemmas.{along}
 use Rattle.zh_decided.proofs.TrailLemmas.{last_potential, last_step, source-of}
 
--- what a circle is that was made from a trail
+-- a cycle that was made from the steps of a trail from `first` on
 pub record IsCircleFrom (trail : Trail) (first : ℕ) (cycle : Cycle) : Type 0 where
   pub length : cycle.length ≡ trail.length - first
   pub giver : (k : ℕ) → k < cycle.length → (step_at cycle.steps k).giver ≡ (step_at trail.steps (first + k)).giver
@@ -22,7 +22,7 @@ pub record IsCircleFrom (trail : Trail) (first : ℕ) (cycle : Cycle) : Type 0 w
   pub taker : (k : ℕ) → 1 ≤ k → k < cycle.length → (step_at cycle.steps k).taker ≡ (step_at trail.steps (first + k)).taker
   pub closed : (step_at cycle.steps 0).taker ≡ (step_at trail.steps (trail.length - 1)).giver
 
--- a sum whose first term stands apart
+-- a sum with its first term split off
 pub sum_to-first : (n : ℕ) (f : ℕ → ℕ) → sum_to (suc n) f ≡ f 0 + sum_to n (λ k. f (k + 1))
 sum_to-first zero f = omega arith
 sum_to-first (suc n) f =
@@ -30,7 +30,7 @@ sum_to-first (suc n) f =
     let here : f (n + 1) ≡ f (suc n) = ap f (add-one n) in
     omega (arith, before, here)
 
--- a taker after the first is the giver before
+-- the taker of each step after the first is the giver of the step before
 taker-after : (m : Priced) (bounds : Bounds) (lower : List Mark) (trail : Trail) (first : ℕ) (cycle : Cycle) →
     IsTrail m bounds lower trail →
     IsCircleFrom trail first cycle → (k : ℕ) → k + 1 < cycle.length →
@@ -91,7 +91,7 @@ circle-of m bounds lower trail f first cycle T from within there C =
 pub one_level_more : (p s : ℕ) → suc p * s ≡ p * s + s
 one_level_more p s = rw (← add-one) (omega arith)
 
--- it is cheaper than what it takes and the slacks
+-- the seats that the cycle adds cost less than those that it removes plus the slacks
 pub cycle-of : (m : Priced) (bounds : Bounds) (lower : List Mark) (trail : Trail) (f first : ℕ) (cycle : Cycle) →
     IsTrail m bounds lower trail →
     trail.source ≡ Some f → first < trail.length → (step_at trail.steps first).column ≡ f → IsCircleFrom trail first cycle →
@@ -138,7 +138,7 @@ cycle-of m bounds lower trail f first cycle T from within there C =
       cheaper = omega (arith, chain, lasts, nexts, begun, last_value, last_last, slacks, S.made);
     }
 
--- round a circle the takers are the givers
+-- sums over the takers and over the givers of a circle are equal
 pub around : (k : Cells) (cycle : Cycle) → IsCircle k cycle → (f : ℕ → ℕ) →
     sum_to cycle.length (λ j. f (step_at cycle.steps j).taker) ≡ sum_to cycle.length (λ j. f (step_at cycle.steps j).giver)
 around k cycle C f =
@@ -154,14 +154,14 @@ around k cycle C f =
     let all_givers : sum_to cycle.length givers ≡ sum_to p givers + givers p = ap (λ n. sum_to n givers) long in
     omega (arith, first, rest, all_takers, all_givers)
 
--- a sum of sums, with one number more a term
+-- the sum of n inequalities f + g + s ≤ h + k
 sum_to-three : (n s : ℕ) (f g h k : ℕ → ℕ) → ((j : ℕ) → j < n → f j + g j + s ≤ h j + k j) →
     sum_to n f + sum_to n g + n * s ≤ sum_to n h + sum_to n k
 sum_to-three zero s f g h k each = omega arith
 sum_to-three (suc n) s f g h k each =
     omega (arith, sum_to-three n s f g h k (λ j lt. each j (omega arith)), each n (omega arith), one_level_more n s)
 
--- where potentials are fair no circle is cheaper
+-- with fair potentials there is no cycle
 pub no_cycle : (m : Priced) (bounds : Bounds) (cycle : Cycle) (x y : ℕ → ℕ) → AreFair m bounds 0 0 x y →
     IsCycle m (bounds.given + bounds.taken) cycle → ⊥
 no_cycle m bounds cycle x y fair C =
@@ -185,7 +185,7 @@ no_cycle m bounds cycle x y fair C =
           (λ j. x (step_at cycle.steps j).giver) each,
     )
 
--- bounds matter for fairness by their slacks alone
+-- fairness depends only on the slacks of the bounds
 pub same-slacks : (m : Priced) (bounds others : Bounds) (a b : ℕ) (x y : ℕ → ℕ) → bounds.given ≡ others.given →
     bounds.taken ≡ others.taken →
     AreFair m bounds a b x y → AreFair m others a b x y
@@ -194,7 +194,7 @@ same-slacks m bounds others a b x y given taken fair = record {
   taken = λ d g dm gn seat. omega (arith, fair.taken d g dm gn seat);
 }
 
--- a cycle at a slack is one at each larger
+-- a cycle at one slack is a cycle at each larger slack
 pub cycle-more : (m : Priced) (slack more : ℕ) (cycle : Cycle) → slack ≤ more → IsCycle m slack cycle → IsCycle m more cycle
 cycle-more m slack more cycle le C = record {
   circle = C.circle;

@@ -1,4 +1,4 @@
--- Where no more seats can be placed, no matrix within the bounds has all totals; where all are placed, they are one.
+-- If no more seats can be placed, no matrix within the bounds has all totals. If all are placed, they are such a matrix.
 use Rattle.std.proofs.Common.{◌≡◌, ℕ, zero, suc, ◌+◌, ◌<◌, ◌≤◌, ◌⊎◌, Bool, true, false, cond, Option, Some, None, IsSome, is_none, Result, Ok, Err, IfErr, OnOk, is_ok}
 use Rattle.std.proofs.Common.{List, slice_index, refl, sym, ◌∙◌, inl, inr, arith, add-one, below_more}
 use Rattle.std.proofs.lemmas.Bool.{cases_eq, cases_lt}
@@ -13,7 +13,7 @@ use Rattle.zh_decided.specs.Ways.{AreBalanced, AreBlocked, ArePlaced, HasNoSourc
 use Rattle.zh_decided.specs.declared.ways.Way.{Way}
 use Rattle.zh_decided.proofs.ImpossibleLemmas.{kept-same, seats_in, seats_of_rows}
 
--- of two sums the smaller has a smaller term
+-- if one sum is less than another, one of its terms is less
 some_less : (n : ℕ) (f g : ℕ → ℕ) → sum_to n f < sum_to n g → (i : ℕ) × (i < n) × (f i < g i)
 some_less zero f g less = absurd (omega arith)
 some_less (suc n) f g less = elim (cases_lt (f n) (g n)) [
@@ -46,7 +46,7 @@ some-or-none : (o : Option Way) (b : Bool) → b ≡ is_none o → (IsSome o →
 some-or-none None b is not = is
 some-or-none (Some way) b is not = absurd (not refl)
 
--- these rows lack a seat
+-- the blocked rows together are short of seats
 pub due-less : (q : Question) (b : CellBounds) (seats : List ℕ) (rows : List Bool) → AreBlocked q b seats rows →
     sum_to q.rows (λ d. cond (is_among rows d) (row_seats q seats d) 0) < seats_due q rows
 due-less q b seats rows blocked =
@@ -57,14 +57,14 @@ due-less q b seats rows blocked =
     (λ e em. kept-most (is_among rows e) _ _ (blocked.each_placed.rows e em)) dm
     (rw among lacks)
 
--- where one of these rows may have a seat more in a column, it is closed
+-- a column in which a blocked row is below its upper bound has no source
 pub closed-for : (q : Question) (b : CellBounds) (seats : List ℕ) (rows : List Bool) (blocked : AreBlocked q b seats rows) (d g : ℕ) →
     d < q.rows → g < q.columns → is_among rows d ≡ true → cell q.columns seats d g < cell q.columns b.most d g →
     HasNoSource q b seats blocked.ways g
 closed-for q b seats rows blocked d g dm gn among room =
     blocked.stuck.all_found d dm (None-of (way_at blocked.ways d) (sym (blocked.without d dm) ∙ among)) g gn room
 
--- in a closed column no other row has more than its fewest
+-- in a column without a source, every other row is at its lower bound
 pub others-least : (q : Question) (b : CellBounds) (seats : List ℕ) (rows : List Bool) (blocked : AreBlocked q b seats rows) (d g : ℕ) →
     d < q.rows → HasNoSource q b seats blocked.ways g → is_among rows d ≡ false → cell q.columns seats d g ≤ cell q.columns b.least d g
 others-least q b seats rows blocked d g dm closed not_among =
@@ -87,7 +87,7 @@ out-most : (b : Bool) (x y : ℕ) → (b ≡ false → x ≤ y) → cond b 0 x �
 out-most true x y le = omega arith
 out-most false x y le = le refl
 
--- terms of two sums: one is less, or none is
+-- either some term of f is less than that of g, or none is
 less_or_none : (n : ℕ) (f g : ℕ → ℕ) → ((i : ℕ) × (i < n) × (f i < g i)) ⊎ ((i : ℕ) → i < n → g i ≤ f i)
 less_or_none zero f g = inr (λ i lt. absurd (omega arith))
 less_or_none (suc n) f g = elim (cases_lt (f n) (g n)) [
@@ -102,7 +102,7 @@ kept-less : (b : Bool) (x y : ℕ) → cond b x 0 < cond b y 0 → (b ≡ true) 
 kept-less true x y less = (refl, less)
 kept-less false x y less = absurd (omega arith)
 
--- in no column does a matrix within the bounds have more seats of these rows
+-- no matrix within the bounds has more seats of the blocked rows in any column
 seats_in-most : (q : Question) (b : CellBounds) (seats : List ℕ) (rows : List Bool) → AreBlocked q b seats rows → (t : List ℕ) → IsWithin q b t →
     (g : ℕ) → g < q.columns → seats_in q rows t g ≤ seats_in q rows seats g
 seats_in-most q b seats rows blocked t within g gn =
@@ -121,7 +121,7 @@ seats_in-most q b seats rows blocked t within g gn =
           omega (arith, most, none d dm))
     ]
 
--- where rows are blocked, no matrix within the bounds has all totals
+-- if rows are blocked, no matrix within the bounds has all totals
 pub none-within : (q : Question) (b : CellBounds) (seats : List ℕ) (rows : List Bool) → AreBlocked q b seats rows → (t : List ℕ) → ¬ IsWithin q b t
 none-within q b seats rows blocked t within =
     let due : seats_due q rows ≡ sum_to q.rows (λ d. cond (is_among rows d) (row_seats q t d) 0)
@@ -130,7 +130,7 @@ none-within q b seats rows blocked t within =
     = sum_to-le q.columns _ _ (λ g gn. seats_in-most q b seats rows blocked t within g gn) in
     omega (arith, due, most, seats_of_rows q rows t, seats_of_rows q rows seats, due-less q b seats rows blocked)
 
--- where all seats are placed, each line has its total
+-- if all seats are placed, each line has its total
 pub all_placed : (q : Question) (b : CellBounds) (seats : List ℕ) → AreBalanced q → ArePlaced q b seats → placed q seats ≡ to_place q → IsWithin q b seats
 all_placed q b seats balanced each all = record {
   one_each = each.one_each;
@@ -141,7 +141,7 @@ all_placed q b seats balanced each all = record {
   at_most = each.at_most;
 }
 
--- no more seats are placed than there are
+-- no more seats are placed than are to be placed
 pub placed-le : (q : Question) (b : CellBounds) (seats : List ℕ) → ArePlaced q b seats → placed q seats ≤ to_place q
 placed-le q b seats each = sum_to-le q.rows (row_seats q seats) (slice_index q.row_totals) each.rows
 

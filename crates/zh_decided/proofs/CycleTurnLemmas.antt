@@ -1,4 +1,4 @@
--- A cycle that is turned, step by step.
+-- A cycle that is cancelled, step by step.
 use Rattle.std.proofs.Common.{◌≡◌, ◌≢◌, ℕ, ◌+◌, ◌-◌, ◌*◌, ◌/◌, ◌%◌, ◌<◌, ◌≤◌, List, All, length, get_or, slice_index, inl, inr, refl, sym, ap, ◌∙◌, arith}
 use Rattle.std.proofs.lemmas.Bool.{cases_eq}
 use Rattle.std.proofs.lemmas.List.Elements.{All-from_get_or}
@@ -16,7 +16,7 @@ use Rattle.zh_decided.specs.declared.cycles.Transfer.{Transfer}
 use Rattle.zh_decided.proofs.CircleLemmas.{around}
 use Rattle.zh_decided.proofs.PassLemmas.{column-passed, cost-passed, one-else, row-passed}
 
--- a matrix with totals has few seats in each cell
+-- a matrix with the totals has at most 400 seats in each cell
 pub few-fitting : (q : Question) (seats : List ℕ) → AreSeatTotals q.rows q.row_totals → FitsVotes q seats → All (λ s. s ≤ 400) seats
 few-fitting q seats totals F = All-from_get_or (λ s. s ≤ 400) seats 0 (λ k lt.
     let within : k < q.rows * q.columns = omega (arith, F.one_each) in
@@ -37,7 +37,7 @@ cell-fitting q seats totals F d g dm gn =
     let most : get_or q.row_totals d 0 ≤ 400 = totals.at_most_400 d 0 (omega (arith, totals.one_each)) in
     omega (arith, term-le-sum_to q.columns (cell q.columns seats d) g gn, F.rows_add_up d dm)
 
--- a row gives as often as it takes
+-- along a circle, a row gives as many seats as it takes
 balanced : (q : Question) (seats : List ℕ) (cycle : Cycle) → IsCircle (cells q seats) cycle → (d : ℕ) →
     sum_to cycle.length (λ j. one_at (step_at cycle.steps j).taker d) ≡ sum_to cycle.length (λ j. one_at (step_at cycle.steps j).giver d)
 balanced q seats cycle C d = around (cells q seats) cycle C (λ a. one_at a d)
@@ -73,7 +73,7 @@ AreTurned-start q cycle before F = record {
   costs = λ l logs. omega arith;
 }
 
--- prices rise
+-- the prices of a cell do not fall
 rising : (l : Logs) (k v : ℕ) → AreLogs l → 0 < v → v ≤ 400 → seat_price l k (v - 1) ≤ seat_price l k v
 rising l k v logs some few =
     let at : v - 1 + 1 ≡ v = omega arith in

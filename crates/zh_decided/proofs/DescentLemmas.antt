@@ -1,4 +1,4 @@
--- How a sweep goes on, by how it goes on a level later.
+-- How a sweep ends from one level on, by how it ends from the next level on.
 use Rattle.std.proofs.Common.{◌≡◌, ℕ, ◌+◌, ◌^◌, ◌<◌, ◌≤◌, List, refl, arith}
 use Rattle.zh_decided.specs.Levels.{AreColumnMarks, AreRowMarks, Descends, GoesOut, IsLowColumn, IsTrail, potential_at}
 use Rattle.zh_decided.specs.Prices.{Priced}
@@ -28,7 +28,7 @@ goes_out-later m bounds levels columns rows lower near given taken few R L out =
   no_room = λ has. out.no_room (room-later m bounds levels columns rows lower near given taken few R L has);
 }
 
--- any end but a trail
+-- every end except a trail is also the end one level before
 ends-later : (m : Priced) (bounds : Bounds) (levels : ℕ) (columns rows lower : List Mark) (end : Descent) → AreNear60 m →
     bounds.given ≤ 2 ^ 36 →
     bounds.taken ≤ 2 ^ 36 → levels + 1 ≤ 32 → AreRowMarks m bounds columns rows → AreColumnMarks m bounds rows columns lower →
@@ -47,14 +47,14 @@ pub descends-later : (m : Priced) (bounds : Bounds) (levels n : ℕ) (columns ro
 descends-later m bounds levels n columns rows lower end is near given taken few R L not D =
     rw is (ends-later m bounds levels columns rows lower end near given taken (omega arith) R L not D)
 
--- more columns than there are do not fall one after the other
+-- a trail does not have more steps than there are columns
 pub no_trail : (m : Priced) (bounds : Bounds) (columns : List Mark) (trail : Trail) → IsTrail m bounds columns trail →
     trail.length ≡ m.cells.columns + 1 → ⊥
 no_trail m bounds columns trail T long =
     too_many m.cells.columns (λ k. (step_at trail.steps k).column) (λ k lt. T.column k (omega arith)) (λ j k jk lt. T.differ j k jk
     (omega arith))
 
--- columns at their caps
+-- a sweep that leaves its bounds after it began at the caps
 pub out-of : (m : Priced) (bounds : Bounds) (columns : List Mark) → m.cells.columns ≤ 32 →
     ((g : ℕ) → g < m.cells.columns → potential_at columns g ≡ bounds.column_cap) → GoesOut m bounds m.cells.columns columns → IsOut m bounds
 out-of m bounds columns few caps out = record {

@@ -1,4 +1,4 @@
--- Bounds of which one is tightened.
+-- Bounds in which one number is tightened.
 use Rattle.std.proofs.Common.{◌≡◌, ◌≢◌, ℕ, ◌+◌, ◌-◌, ◌*◌, ◌<◌, ◌≤◌, List, length, get_or, set, slice_index, inl, inr, refl, sym, ap, ◌∙◌, arith}
 use Rattle.std.proofs.lemmas.Bool.{cases_eq, cases_lt}
 use Rattle.std.proofs.lemmas.List.{get_or-set_other, get_or-set_same, length-set}
@@ -10,7 +10,7 @@ use Rattle.zh_decided.specs.Ways.{ArePlaced}
 use Rattle.zh_decided.proofs.PathTurnLemmas.{cell-within}
 use Rattle.zh_decided.proofs.WithinLemmas.{at_most-at}
 
--- the first n numbers are as before, but for one
+-- the first n numbers are unchanged, except that the one in `place` is x
 pub record AreSameBut (n : ℕ) (before after : List ℕ) (place x : ℕ) : Type 0 where
   pub here : slice_index after place ≡ x
   pub others : (k : ℕ) → k < n → k ≢ place → slice_index after k ≡ slice_index before k
@@ -50,7 +50,7 @@ at_least-tight q least tight t place x but le each d g dm gn = elim (cases_eq (d
   | inr other ↦ omega (arith, each d g dm gn, but.others (d * q.columns + g) (cell-within q.rows q.columns d g dm gn) other)
 ]
 
--- a cell may have x seats at most
+-- the bounds with tightened upper bounds
 abbrev pub lowered : CellBounds → List ℕ → CellBounds
 lowered b tight = record { least = b.least; most = tight }
 
@@ -74,7 +74,7 @@ to_lowered q b tight t place x but le within = record {
   at_most = at_most-tight q b.most tight t place x but le within.at_most;
 }
 
--- a cell is to have x seats at least
+-- the bounds with tightened lower bounds
 abbrev pub raised : CellBounds → List ℕ → CellBounds
 raised b tight = record { least = tight; most = b.most }
 
@@ -98,7 +98,7 @@ to_raised q b tight t place x but le within = record {
   at_most = within.at_most;
 }
 
--- all numbers copied, and one set
+-- a copy of all numbers in which one is then set
 same_but : (q : Question) (before copy : List ℕ) (place x : ℕ) → IsSized q → length copy ≡ 1024 → place < q.rows * q.columns →
     ((k : ℕ) → k < q.rows * q.columns → slice_index copy k ≡ slice_index before k) →
     AreSameBut (q.rows * q.columns) before (set copy place x) place x
@@ -106,7 +106,7 @@ same_but q before copy place x sized long lt same =
     let few : q.rows * q.columns ≤ 32 * q.columns = mul-le-mul_right q.columns sized.few_rows in
     AreSameBut-set (q.rows * q.columns) before copy place x lt (omega (arith, long, few, sized.few_columns)) same
 
--- where a cell may have one seat less than it has, and no more
+-- the upper bound in `place` is tightened to one seat less than the cell has
 pub record IsFewer (q : Question) (b : CellBounds) (seats tight : List ℕ) (place : ℕ) : Type 0 where
   pub but : AreSameBut (q.rows * q.columns) b.most tight place (get_or seats place 0 - 1)
   pub within : IsWithin q b seats
@@ -123,7 +123,7 @@ IsFewer-of q b copy seats place sized long lt same within some = record {
   some = some;
 }
 
--- the matrix with one seat less there is placed
+-- the matrix with one seat less in that place is within the tightened bounds
 pub fewer-placed : (q : Question) (b : CellBounds) (seats tight : List ℕ) (place : ℕ) → IsFewer q b seats tight place →
     slice_index b.least place < slice_index seats place → ArePlaced q (lowered b tight) (set seats place (get_or seats place 0 - 1))
 fewer-placed q b seats tight place fewer above =
@@ -165,7 +165,7 @@ none_fewer q b seats tight place fewer none t within = elim (cases_lt (slice_ind
   | inr le ↦ le
 ]
 
--- where a cell is to have one seat more than it has
+-- the lower bound in `place` is tightened to one seat more than the cell has
 pub record IsMore (q : Question) (b : CellBounds) (seats tight : List ℕ) (place : ℕ) : Type 0 where
   pub but : AreSameBut (q.rows * q.columns) b.least tight place (get_or seats place 0 + 1)
   pub within : IsWithin q b seats
@@ -180,7 +180,7 @@ IsMore-of q b copy seats place sized long lt same within = record {
   there = lt;
 }
 
--- a matrix that has it is placed within them
+-- a matrix with one seat more in that place is within the tightened bounds
 pub more-placed : (q : Question) (b : CellBounds) (seats tight others : List ℕ) (place : ℕ) → IsMore q b seats tight place → ArePlaced q b others →
     slice_index others place ≡ slice_index seats place + 1 → ArePlaced q (raised b tight) others
 more-placed q b seats tight others place more placed is = record {

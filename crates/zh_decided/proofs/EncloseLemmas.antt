@@ -1,4 +1,4 @@
--- Potentials that begin above others stay above them, but for so much a level.
+-- Potentials that begin above others stay above them, less a fixed amount per level.
 use Rattle.std.proofs.Common.{◌≡◌, ℕ, ◌+◌, ◌*◌, ◌<◌, ◌≤◌, Option, Some, None, List, inr, arith}
 use Rattle.zh_decided.specs.Levels.{AreColumnMarks, AreRowMarks, IsColumnMark, IsLowColumn, IsRowMaker, IsRowMark, mark_at, potential_at}
 use Rattle.zh_decided.specs.Prices.{Priced}
@@ -44,7 +44,7 @@ pub rows-above : (m : Priced) (bounds : Bounds) (columns rows : List Mark) (a b 
 rows-above m bounds columns rows a b e x y marks fair cap above d dm =
     row-above m bounds columns a b e x y d (mark_at rows d) fair dm (cap d dm) above (marks.each d dm)
 
--- a column that is too low
+-- a column below its floor
 pub out-column : (m : Priced) (bounds : Bounds) (levels : ℕ) (columns rows : List Mark) → AreRowMarks m bounds columns rows →
     IsLowColumn m bounds rows columns → AreOut m bounds levels (potential_at columns)
 out-column m bounds levels columns rows marks low a b e x y fair cap above =
@@ -65,7 +65,7 @@ columns-above m bounds columns rows lower a b e x y row_marks marks fair cap abo
 low-more : (m : Priced) (bounds : Bounds) (e f : ℕ) (x y : ℕ → ℕ) → e ≡ f → IsLow m bounds e x y → IsLow m bounds f x y
 low-more m bounds e f x y same low = rw (← same) low
 
--- a level later
+-- the same, seen from one level before
 pub out-later : (m : Priced) (bounds : Bounds) (levels : ℕ) (columns rows lower : List Mark) → AreRowMarks m bounds columns rows →
     AreColumnMarks m bounds rows columns lower → AreOut m bounds levels (potential_at lower) →
     AreOut m bounds (levels + 1) (potential_at columns)

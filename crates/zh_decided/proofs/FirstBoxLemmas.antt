@@ -1,4 +1,4 @@
--- The divisors of the first box in which seats stand still are a function of the question.
+-- The divisors of the first box are a function of the question and the seats.
 use Rattle.std.proofs.Common.{◌≡◌, ℕ, ◌+◌, ◌-◌, ◌*◌, ◌/◌, ◌%◌, ◌^◌, ◌<◌, ◌≤◌, List, length, get_or, slice_index, inl, inr, sym, ap, subst, ◌∙◌, arith}
 use Rattle.std.proofs.lemmas.Bool.{cases_lt, cases_order}
 use Rattle.std.proofs.lemmas.List.{ext_get_or}
@@ -22,7 +22,7 @@ use Rattle.zh_decided.proofs.CheapestLemmas.{only-cheapest}
 use Rattle.zh_decided.specs.Boxes.{AreInBox, AreInFirstBox, GiveWithin, HaveLogs, IsBox, NoneGiven, StandsInBox}
 use Rattle.zh_decided.specs.Tables.{AreLogTables, AreOddLogs, AreVoteLogs}
 
--- the tables of logarithms are the only ones
+-- the tables of logarithms are unique
 same-vote-logs : (votes a b : List ℕ) → AreVoteLogs votes a → AreVoteLogs votes b → b ≡ a
 same-vote-logs votes a b A B = ext_get_or 0 b a (B.one_each ∙ sym A.one_each) (λ k lt.
     let there : k < length votes = omega (arith, B.one_each) in
@@ -41,7 +41,7 @@ same-logs q l k L K =
     ∙ ap (λ x. record { of_votes = l.of_votes; of_odds = x })
     (same-odd-logs l.of_odds k.of_odds (K.odd_numbers ∙ sym L.odd_numbers) L.of_odds K.of_odds)
 
--- and so are the bounds of a box
+-- the bounds of a box are unique
 same-scale : (bits : ℕ) (b c : Bounds) (B : IsBox bits b) (C : IsBox bits c) → C.scale ≡ B.scale
 same-scale bits b c B C = only-logarithm (10 ^ 12) B.scale C.scale B.scale_is C.scale_is
 
@@ -82,7 +82,7 @@ same-still m b c p E F S = record {
   greatest_columns = λ x y fair capped. S.greatest_columns x y (same-slacks m c b 0 0 x y F.given F.taken fair) (same-capped m c b x y F capped);
 }
 
--- where a sweep within a box does not stand still, no potentials do
+-- if the sweep within a box does not end at potentials, the box has none
 still-here : (q : Question) (l : Logs) (seats : List ℕ) (bits : ℕ) (bounds : Bounds) (p : Potentials) → IsBox bits bounds →
     StandsInBox q l seats bits p → IsStill (priced q l seats) bounds p
 still-here q l seats bits bounds p B S =
@@ -105,7 +105,7 @@ pub not-cycle : (q : Question) (l : Logs) (seats : List ℕ) (bits : ℕ) (bound
 not-cycle q l seats bits bounds cycle B C p S =
     no_cycle (priced q l seats) bounds cycle (of_row p) (of_column p) (still-here q l seats bits bounds p B S).fair C
 
--- where it does, divisors have its potentials for their logarithms
+-- if it does, the divisors are the antilogarithms of its potentials
 pub in-box : (q : Question) (l : Logs) (seats : List ℕ) (bits m n top : ℕ) (bounds : Bounds) (p : Potentials) (of_rows of_columns : List ℕ) →
     m ≡ q.rows → n ≡ q.columns → top ≡ bounds.row_cap + bits * log_unit → IsBox bits bounds → IsStill (priced q l seats) bounds p →
     HaveLogs bits (10 ^ 18) m of_rows (λ i. top - slice_index p.of_rows i) → HaveLogs bits (10 ^ 12) n of_columns (slice_index p.of_columns) →
@@ -119,7 +119,7 @@ in-box q l seats bits m n top bounds p of_rows of_columns rows-are columns-are t
       columns = λ g gn. C.antilogarithms g (omega arith);
     }
 
--- the greatest potentials within bounds are the only ones
+-- the greatest potentials within bounds are unique
 same-rows : (m : Priced) (bounds : Bounds) (p r : Potentials) → IsStill m bounds p → IsStill m bounds r → (d : ℕ) → d < m.cells.rows →
     of_row r d ≡ of_row p d
 same-rows m bounds p r P R d dm = le_antisymm (P.greatest_rows (of_row r) (of_column r) R.fair R.capped d dm)
@@ -130,7 +130,7 @@ same-columns : (m : Priced) (bounds : Bounds) (p r : Potentials) → IsStill m b
 same-columns m bounds p r P R g gn = le_antisymm (P.greatest_columns (of_row r) (of_column r) R.fair R.capped g gn)
     (R.greatest_columns (of_row p) (of_column p) P.fair P.capped g gn)
 
--- and so are the divisors of a box
+-- the divisors of a box are unique
 row-of-box : (q : Question) (l : Logs) (seats : List ℕ) (bits : ℕ) (of_rows of_columns rows columns : List ℕ) →
     AreInBox q l seats bits of_rows of_columns → AreInBox q l seats bits rows columns → (d : ℕ) → d < q.rows →
     slice_index rows d ≡ slice_index of_rows d
@@ -156,7 +156,7 @@ column-of-box q l seats bits of_rows of_columns rows columns A B g gn =
     only-antilogarithm (of_column A.potentials g) (10 ^ 12) (slice_index of_columns g) (slice_index columns g) (A.columns g gn)
     (rw potential at (B.columns g gn))
 
--- two first boxes are the same
+-- the first box is unique
 same-place : (q : Question) (seats of_rows of_columns rows columns : List ℕ) (A : AreInFirstBox q seats of_rows of_columns)
     (B : AreInFirstBox q seats rows columns) → B.logs ≡ A.logs → B.smaller ≡ A.smaller
 same-place q seats of_rows of_columns rows columns A B logs = elim (cases_order A.smaller B.smaller) [
@@ -171,7 +171,7 @@ same-box q seats of_rows of_columns rows columns A B =
     let logs : B.logs ≡ A.logs = same-logs q A.logs B.logs A.tables B.tables in
     rw (logs, same-place q seats of_rows of_columns rows columns A B logs) at B.in_box
 
--- seats have one pair of divisors in it
+-- the divisors of the first box are unique
 pub only-rows : (q : Question) (of_rows of_columns rows columns seats : List ℕ) → GiveWithin q of_rows of_columns seats →
     GiveWithin q rows columns seats → rows ≡ of_rows
 only-rows q of_rows of_columns rows columns seats A B =
@@ -186,14 +186,14 @@ only-columns q of_rows of_columns rows columns seats A B =
     column-of-box q A.first.logs seats (20 - 4 * A.first.smaller) of_rows of_columns rows columns A.first.in_box
     (same-box q seats of_rows of_columns rows columns A.first B.first) g (omega (arith, B.limits.columns.one_each)))
 
--- where the sweeps stand still in none of the boxes, there is no first
+-- if the sweep ends at potentials in none of the boxes, there is no first box
 pub outside : (q : Question) (l : Logs) (seats : List ℕ) → AreLogTables q l →
     ((k : ℕ) → k < 5 → (p : Potentials) → ¬ StandsInBox q l seats (20 - 4 * k) p) → (rows columns : List ℕ) → ¬ AreInFirstBox q seats rows columns
 outside q l seats T moves rows columns first =
     let logs : first.logs ≡ l = same-logs q l first.logs T first.tables in
     moves first.smaller first.few first.in_box.potentials (rw (← logs) first.in_box.stands)
 
--- nor for other seats, where these are the only ones
+-- if these seats are the only ones and have no first box, no divisors are given for any seats
 pub none-given : (q : Question) (x : Divisors) (seats : List ℕ) → IsStrict q x seats →
     ((rows columns : List ℕ) → ¬ AreInFirstBox q seats rows columns) → NoneGiven q
 none-given q x seats strict none rows columns others given =
@@ -201,7 +201,7 @@ none-given q x seats strict none rows columns others given =
     = only_seats q x (millionths rows columns) seats others strict (weakened q (millionths rows columns) others given.strict) in
     none rows columns (subst (λ (s : List ℕ). AreInFirstBox q s rows columns) only given.first)
 
--- nor where another matrix is cheapest, or this one with a cycle at the slacks of every box
+-- nor are any given if these seats cost least and have a cycle at the smallest slack of the boxes
 equal-lists : (q : Question) (seats others : List ℕ) → length seats ≡ q.rows * q.columns → length others ≡ q.rows * q.columns →
     ((d g : ℕ) → d < q.rows → g < q.columns → cell q.columns others d g ≡ cell q.columns seats d g) → others ≡ seats
 equal-lists q seats others long also same = ext_get_or 0 others seats (also ∙ sym long) (λ k lt.

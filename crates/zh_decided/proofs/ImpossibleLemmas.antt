@@ -1,4 +1,4 @@
--- Rows whose votes lie in columns that have fewer seats than they.
+-- Rows whose votes lie in columns that together have fewer seats than these rows.
 use Rattle.std.proofs.Common.{◌≡◌, ℕ, ◌-◌, ◌*◌, ◌<◌, ◌≤◌, Bool, true, false, cond, ltb, List, slice_index, refl, sym, ◌∙◌, inl, inr, arith}
 use Rattle.std.proofs.lemmas.Bool.{cases_lt, ltb-false}
 use Rattle.std.proofs.Math.Nat.{mul-le-mul_right, mul-pos}
@@ -11,7 +11,7 @@ use Rattle.zh_matrices.specs.Question.{Question, cell}
 use Rattle.zh_matrices.specs.SeatMatrix.{IsWeak, MayRound}
 use Rattle.zh_matrices.proofs.CallerLemmas.{total-swap}
 
--- no votes over positive divisors round to no seats
+-- a cell without votes gets no seats under positive divisors
 no_votes-no_seats : (k p s : ℕ) → 0 < p → MayRound (0 * k) p s → s ≡ 0
 no_votes-no_seats k p s positive rounds = elim (cases_lt 0 s) [
   | inl some ↦
@@ -21,7 +21,7 @@ no_votes-no_seats k p s positive rounds = elim (cases_lt 0 s) [
   | inr none ↦ omega arith
 ]
 
--- seats that follow weakly are a matrix on these votes
+-- seats that follow weakly are a matrix on the votes
 pub fits-weak : (q : Question) (x : Divisors) (seats : List ℕ) → IsWeak q x seats → FitsVotes q seats
 fits-weak q x seats W = record {
   one_each = W.one_each;
@@ -47,19 +47,19 @@ kept-none : (b : Bool) (x : ℕ) → (b ≡ true → x ≡ 0) → cond b x 0 ≡
 kept-none true x none = none refl
 kept-none false x none = refl
 
--- a sum of what is kept of a row
+-- the sum of a row that is kept or left out
 sum_to-kept : (n : ℕ) (b : Bool) (f : ℕ → ℕ) → sum_to n (λ g. cond b (f g) 0) ≡ cond b (sum_to n f) 0
 sum_to-kept n true f = refl
 sum_to-kept n false f = sum_to-zero n (λ g. 0) (λ g lt. refl)
 
--- the seats of these rows, row by row or column by column
+-- the seats of these rows, summed row by row or column by column
 pub seats_of_rows : (q : Question) (rows : List Bool) (seats : List ℕ) →
     sum_to q.rows (λ d. cond (is_among rows d) (sum_to q.columns (cell q.columns seats d)) 0) ≡ sum_to q.columns (seats_in q rows seats)
 seats_of_rows q rows seats =
     sym (sum_to-ext q.rows _ _ (λ d lt. sum_to-kept q.columns (is_among rows d) (cell q.columns seats d)))
     ∙ total-swap q.rows q.columns (λ d g. cond (is_among rows d) (cell q.columns seats d g) 0)
 
--- one of these rows without votes in a column
+-- if these rows have no votes in a column, each of them has none
 row-none : (q : Question) (rows : List Bool) (g d : ℕ) → votes_among q rows g ≤ 0 → d < q.rows → is_among rows d ≡ true →
     cell q.columns q.votes d g ≡ 0
 row-none q rows g d none dm among =
@@ -68,7 +68,8 @@ row-none q rows g d none dm among =
     let here : cond true (cell q.columns q.votes d g) 0 ≤ votes_among q rows g = rw among at term in
     omega arith
 
--- of a matrix on these votes, the seats of these rows in a column are at most those of the column, where they have votes
+-- in a matrix on the votes, these rows have at most the total of a column in which they have votes, and no seats in the other
+-- columns
 seats_in-le : (q : Question) (rows : List Bool) (seats : List ℕ) → FitsVotes q seats → (g : ℕ) → g < q.columns →
     (b : Bool) → ltb 0 (votes_among q rows g) ≡ b → seats_in q rows seats g ≤ cond b (slice_index q.column_totals g) 0
 seats_in-le q rows seats F g gn true some =
@@ -86,7 +87,7 @@ seats_in-le q rows seats F g gn false none =
           F.on_votes d g lt gn (row-none q rows g d (ltb-false _ _ none) lt among))),
     )
 
--- where rows have too few seats there is no matrix
+-- if rows have too few seats, there is no matrix
 pub no_matrix : (q : Question) (rows : List Bool) → HasTooFewSeats q rows → (seats : List ℕ) → ¬ FitsVotes q seats
 no_matrix q rows few seats F =
     let due : seats_due q rows ≡ sum_to q.rows (λ d. cond (is_among rows d) (sum_to q.columns (cell q.columns seats d)) 0)

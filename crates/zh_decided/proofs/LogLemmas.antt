@@ -1,4 +1,4 @@
--- Logarithms of products, and numbers by the order of their logarithms.
+-- Logarithms of products, and the order of numbers by their logarithms.
 use Rattle.std.proofs.Common.{◌≡◌, ℕ, zero, suc, inl, inr, ◌+◌, ◌-◌, ◌*◌, ◌^◌, ◌<◌, ◌≤◌, refl, sym, ap, ◌∙◌, arith}
 use Rattle.std.proofs.lemmas.Bool.{cases_lt}
 use Rattle.std.proofs.lemmas.Nat.{mul-lt, pow-add}
@@ -18,7 +18,7 @@ of_product a b c d m n k l M N =
       not_below = rw (power-mul m n log_unit, shape, power-add 2 (k + b) (l + d)) low;
     }
 
--- a power of two adds a whole number of units, and no error
+-- a power of two as a factor adds a multiple of the unit, and no error
 pub of_shifted : (a b n l e : ℕ) → IsLog a b n l → IsLog a b (n * power 2 e) (l + e * log_unit)
 of_shifted a b n l e L =
     let unit : ℕ = log_unit in
@@ -32,7 +32,7 @@ of_shifted a b n l e L =
       not_below = rw (power-mul n (power 2 e) unit, power-power 2 e unit, shape, power-add 2 (l + b) (e * unit)) (omega arith);
     }
 
--- a logarithm that is smaller by more than the errors
+-- a logarithm that is smaller by at least the errors belongs to a smaller number
 pub less_by_logs : (a b c d m n k l : ℕ) → IsLog a b m k → IsLog c d n l → k + b + c ≤ l → m < n
 less_by_logs a b c d m n k l M N le =
     let p : ℕ = power 2 c in
@@ -43,7 +43,7 @@ less_by_logs a b c d m n k l M N le =
     let both : p * power m log_unit < p * power n log_unit = omega (arith, N.not_above) in
     base_less m n log_unit (lt_of_mul-lt-mul_left p both)
 
--- one that is larger by no more than the logarithm of a factor
+-- a logarithm that is larger by at most that of a factor belongs to a number that is larger by less than the factor
 pub nearly_less_by_logs : (f s a b c d m n k l : ℕ) → HasFactor f s → IsLog a b m k → IsLog c d n l → k + b + c ≤ l + s → f * m < (f + 1) * n
 nearly_less_by_logs f s a b c d m n k l H M N le =
     let u : ℕ = log_unit in
@@ -62,7 +62,7 @@ nearly_less_by_logs f s a b c d m n k l H M N le =
     let powers : F * power m u < power (f + 1) u * power n u = lt_of_mul-lt-mul_left p both in
     base_less (f * m) ((f + 1) * n) u (rw (power-mul f m u, power-mul (f + 1) n u) powers)
 
--- numbers that are apart by a factor have logarithms apart
+-- if two numbers differ by a factor, so do their logarithms, up to the errors
 pub apart_by_factor : (f s a b c d m n k l : ℕ) → HasFactor f s → IsLog a b m k → IsLog c d n l → (f + 1) * m ≤ f * n → k + s < l + d + a
 apart_by_factor f s a b c d m n k l H M N le =
     elim (cases_lt (k + s) (l + d + a)) [
@@ -70,7 +70,7 @@ apart_by_factor f s a b c d m n k l H M N le =
       | inr near ↦ absurd (omega (arith, nearly_less_by_logs f s c d a b n m l k H N M near))
     ]
 
--- numbers in order have logarithms in order, but for the errors
+-- the logarithms are in the order of the numbers, up to the errors
 pub logs_in_order : (a b c d m n k l : ℕ) → IsLog a b m k → IsLog c d n l → m ≤ n → k < l + d + a
 logs_in_order a b c d m n k l M N le =
     let p : ℕ = power 2 a in
@@ -80,7 +80,7 @@ logs_in_order a b c d m n k l M N le =
     let split : power 2 (l + d + a) ≡ power 2 (l + d) * p = power-add 2 (l + d) a in
     exponent_less 2 k (l + d + a) (omega arith) (omega (arith, M.not_above))
 
--- what has a logarithm is positive
+-- a number that has a logarithm is positive
 pub positive_by_log : (a b n l : ℕ) → IsLog a b n l → 0 < n
 positive_by_log a b n l L =
     let low : 0 < power 2 l = power_positive 2 l (omega arith) in
@@ -98,7 +98,7 @@ positive_by_log a b n l L =
     zero-power zero lt = absurd (omega arith)
     zero-power (suc e) lt = rw (power-suc 0 e) (omega arith)
 
--- of powers of two
+-- the logarithm of a power of two
 pub of_power : (e : ℕ) → IsLog 0 2 (power 2 e) (e * log_unit)
 of_power e =
     let positive : 0 < power 2 (e * log_unit) = power_positive 2 (e * log_unit) (omega arith) in
@@ -107,7 +107,7 @@ of_power e =
       not_below = rw (power-power 2 e log_unit, power-four (e * log_unit)) (omega arith);
     }
 
--- the search for a number by its logarithm: 2^k is reached by a logarithm that is large enough
+-- the bisection for a number by its logarithm: a logarithm of at least k units reaches 2^k
 pub least_reached : (k r : ℕ) → k * log_unit ≤ r → power (2 ^ k) log_unit < power 2 (r + 2)
 least_reached k r le =
     let base : power (2 ^ k) log_unit ≡ power 2 (k * log_unit) = rw (sym (power-is 2 k)) (power-power 2 k log_unit) in
@@ -115,17 +115,17 @@ least_reached k r le =
     let positive : 0 < power 2 r = power_positive 2 r (omega arith) in
     rw (base, power-four r) (omega arith)
 
--- so is each number with a logarithm no larger
+-- it reaches each number whose logarithm is no larger
 pub reached : (n l r : ℕ) → IsLog 0 2 n l → l ≤ r → power n log_unit < power 2 (r + 2)
 reached n l r L le = omega (arith, L.not_below, exponent_rises 2 (l + 2) (r + 2) (omega arith) (omega arith))
 
--- and one with a larger one lies beyond
+-- it does not reach beyond a number whose logarithm is larger
 pub passed : (n l r : ℕ) → IsLog 0 2 n l → r < l → power 2 r ≤ power n log_unit
 passed n l r L lt =
     let whole : power 2 l ≤ 1 * power n log_unit = rw (power-zero 2) at L.not_above in
     omega (arith, exponent_rises 2 r l (omega arith) (omega arith))
 
--- the number between, from 2^k on
+-- if a logarithm reaches n but not beyond n + 1, it is that of n, at most 2^(31 - k) units too high
 pub rounded_down : (k n r : ℕ) → 1 ≤ k → k ≤ 31 → 2 ^ k ≤ n → power n log_unit < power 2 (r + 2) → power 2 r ≤ power (n + 1) log_unit →
     IsLog (2 ^ (31 - k)) 2 n r
 rounded_down k n r some few least low high =
@@ -137,13 +137,13 @@ rounded_down k n r some few least low high =
     = costs_at_most n (2 ^ (k - 1)) (2 ^ (31 - k)) log_unit product (omega arith) in
     record { not_above = omega arith; not_below = low }
 
--- 2^k is not reached by a logarithm that is small enough
+-- a logarithm of at most k units does not reach beyond 2^k
 pub most_reached : (k r : ℕ) → r ≤ k * log_unit → power 2 r ≤ power (2 ^ k) log_unit
 most_reached k r le =
     let base : power (2 ^ k) log_unit ≡ power 2 (k * log_unit) = rw (sym (power-is 2 k)) (power-power 2 k log_unit) in
     rw base (exponent_rises 2 r (k * log_unit) (omega arith) le)
 
--- a logarithm and all below it are reached
+-- a logarithm and all below it do not reach beyond the number
 pub reaches : (b n l r : ℕ) → IsLog 0 b n l → r ≤ l → power 2 r ≤ power n log_unit
 reaches b n l r L le =
     let whole : power 2 l ≤ 1 * power n log_unit = rw (power-zero 2) at L.not_above in

@@ -1,4 +1,4 @@
--- Tables of marks and steps that grow by one.
+-- Tables of marks and steps that grow by one entry.
 use Rattle.std.proofs.Common.{◌≡◌, ℕ, ◌+◌, ◌-◌, ◌<◌, ◌≤◌, MatchOption, Option, None, List, length, set, inl, inr, arith}
 use Rattle.std.proofs.lemmas.Bool.{cases_eq}
 use Rattle.std.proofs.lemmas.List.{get_or-set_other, get_or-set_same}
@@ -9,12 +9,12 @@ use Rattle.zh_decided.specs.declared.sweep_bounds.Bounds.{Bounds}
 use Rattle.zh_decided.specs.declared.cycles.Transfer.{Transfer}
 use Rattle.zh_decided.specs.declared.prices.Mark.{Mark}
 
--- what made a column: a row, or nothing
+-- what lowered a column: a row, or nothing
 abbrev pub IsColumnMaker : Priced → Bounds → List Mark → ℕ → ℕ → ℕ → Option ℕ → Type 0
 IsColumnMaker m bounds rows before g potential maker =
     MatchOption maker (potential ≡ before) (λ d. (potential < before) × MakesColumn m bounds rows g potential d)
 
--- what holds of the first n marks and of the next one
+-- what holds for the first n marks and for the next one
 pub marked : (P : ℕ → Mark → Type 0) (marks : List Mark) (n : ℕ) (mark : Mark) → n < length marks →
     ((d : ℕ) → d < n → P d (mark_at marks d)) → P n mark → (d : ℕ) → d < n + 1 → P d (mark_at (set marks n mark) d)
 marked P marks n mark within before here d lt = elim (cases_eq d n) [

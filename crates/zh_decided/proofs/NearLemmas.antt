@@ -9,7 +9,7 @@ use Rattle.zh_matrices.specs.Question.{Question, cell}
 use Rattle.zh_matrices.specs.SeatMatrix.{Follows, IsStrict, IsWeak, MayRound}
 use Rattle.zh_matrices.proofs.CallerLemmas.{Separates, same_seats}
 
--- a larger divisor gives no more, by any factor b / a
+-- a larger divisor gives no more seats, for any factor b / a
 fewer_by : (a b v k k' p p' s s' : ℕ) → 0 < k' → b * (2 * (v * k)) < a * ((2 * s + 1) * p) →
     (1 ≤ s' → a * ((2 * s' - 1) * p') ≤ b * (2 * (v * k'))) → p * k' ≤ p' * k → s' ≤ s
 fewer_by a b v k k' p p' s s' pos below above le =
@@ -23,7 +23,7 @@ fewer_by a b v k k' p p' s s' pos below above le =
       | inr le ↦ le
     ]
 
--- a smaller divisor gives no fewer
+-- a smaller divisor gives no fewer seats
 more_by : (a b v k k' p p' s s' : ℕ) → 0 < k' → (1 ≤ s → b * ((2 * s - 1) * p) < a * (2 * (v * k))) →
     a * (2 * (v * k')) ≤ b * ((2 * s' + 1) * p') → p' * k ≤ p * k' → s ≤ s'
 more_by a b v k k' p p' s s' pos above below le =
@@ -43,14 +43,14 @@ clear-near = record {
   more = λ v k k' p p' s s' pos clear near le. more_by 131072 131073 v k k' p p' s s' pos clear.above_lower near.to_upper le;
 }
 
--- of two matrices that are nearly tied no third is clear of every half
+-- if two matrices are nearly tied, no matrix is clear of every half
 pub no_clear : (q : Question) (d g : ℕ) → IsNearlyTied q d g → (x : Divisors) (seats : List ℕ) → ¬ IsClear q x seats
 no_clear q d g tie x seats clear =
     let one : tie.seats ≡ seats = same_seats RoundsClearly NearlyRounds clear-near q x tie.divisors seats tie.seats clear tie.tied.one in
     let other : tie.others ≡ seats = same_seats RoundsClearly NearlyRounds clear-near q x tie.divisors seats tie.others clear tie.tied.other in
     tie.tied.first.differ (ap (λ s. cell q.columns s (d - 1) (g - 1)) (one ∙ sym other))
 
--- seats that follow by one way of rounding, which is a case of another
+-- seats that follow by one way of rounding also follow by a weaker one
 follows-also : (P Q : ℕ → ℕ → ℕ → Type 0) → ((n p s : ℕ) → P n p s → Q n p s) → (q : Question) (x : Divisors) (seats : List ℕ) →
     Follows P q x seats → Follows Q q x seats
 follows-also P Q also q x seats F = record {

@@ -4,7 +4,7 @@ use Rattle.std.proofs.lemmas.Bool.{cases_eq}
 use Rattle.zh_divisors.specs.Sums.{sum_to}
 use Rattle.zh_divisors.proofs.CallerLemmas.{sum_to-ext}
 
--- the other terms stay
+-- the other terms do not change
 pub sum_to-changed : (n : ℕ) (f g : ℕ → ℕ) (j : ℕ) → j < n → ((i : ℕ) → i < n → i ≢ j → f i ≡ g i) → sum_to n f + g j ≡ sum_to n g + f j
 sum_to-changed zero f g j within same = absurd (omega arith)
 sum_to-changed (suc n) f g j within same = elim (cases_eq j n) [
@@ -18,7 +18,7 @@ sum_to-changed (suc n) f g j within same = elim (cases_eq j n) [
       omega (arith, before, here)
 ]
 
--- one term has one more
+-- one term grows by one
 pub sum_to-one_more : (n : ℕ) (f g : ℕ → ℕ) (j : ℕ) → j < n → ((i : ℕ) → i < n → i ≢ j → g i ≡ f i) → g j ≡ f j + 1 → sum_to n g ≡ sum_to n f + 1
 sum_to-one_more n f g j within same more = omega (arith, sum_to-changed n g f j within same, more)
 

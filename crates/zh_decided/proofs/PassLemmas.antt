@@ -1,4 +1,4 @@
--- A seat that is passed on in a column: the cells, the sums of rows and columns, and the cost.
+-- A seat that moves within a column: the cells, the sums of rows and columns, and the cost.
 use Rattle.std.proofs.Common.{◌≡◌, ◌≢◌, ℕ, zero, suc, ◌+◌, ◌-◌, ◌*◌, ◌/◌, ◌%◌, ◌<◌, ◌≤◌, cond, List, length, set, inl, inr, sym, ap, ◌∙◌, arith}
 use Rattle.std.proofs.lemmas.Bool.{cases_eq, eq-eqb, ne_eqb}
 use Rattle.std.proofs.lemmas.List.{get_or-set_other, get_or-set_same, length-set}
@@ -11,7 +11,7 @@ use Rattle.zh_decided.specs.Turns.{PassesOn, one_at}
 use Rattle.zh_decided.specs.declared.cycles.Transfer.{Transfer}
 use Rattle.zh_decided.proofs.RoomLemmas.{cell-within}
 
--- 1 at one row
+-- `one_at` is 1 at its row
 pub one-here : (a d : ℕ) → d ≡ a → one_at a d ≡ 1
 one-here a d is = ap (λ b. cond b 1 0) (eq-eqb d a is)
 
@@ -26,7 +26,7 @@ sum_to-one (suc n) a lt = elim (cases_eq n a) [
   | inr other ↦ omega (arith, sum_to-one n a (omega arith), one-else a n other)
 ]
 
--- f at one row
+-- the value of f at row a, and 0 at the other rows
 only : ℕ → (ℕ → ℕ) → ℕ → ℕ
 only a f d = one_at a d * f d
 
@@ -48,7 +48,7 @@ sum_to-only (suc n) a f lt = elim (cases_eq n a) [
   | inr other ↦ omega (arith, sum_to-only n a f (omega arith), only-else a n f other)
 ]
 
--- cells of other rows and of other columns have other places
+-- cells in different rows or columns have different places
 rows-differ : (n d g e f : ℕ) → g < n → f < n → e ≢ d → e * n + f ≢ d * n + g
 rows-differ n d g e f gn fn differ same =
     differ (sym (place-div e f n fn) ∙ ap (λ k. k / n) same ∙ place-div d g n gn)
@@ -57,7 +57,7 @@ columns-differ : (n d g e f : ℕ) → g < n → f < n → f ≢ g → e * n + f
 columns-differ n d g e f gn fn differ same =
     differ (sym (place-mod e f n fn) ∙ ap (λ k. k % n) same ∙ place-mod d g n gn)
 
--- a cell that is written
+-- what a cell contains after a cell was written
 written-here : (q : Question) (s : List ℕ) (a c v d : ℕ) → length s ≡ q.rows * q.columns → a < q.rows → c < q.columns → d ≡ a →
     cell q.columns (set s (a * q.columns + c) v) d c ≡ v
 written-here q s a c v d long an cn is =
@@ -73,7 +73,7 @@ written-column : (q : Question) (s : List ℕ) (a c v d g : ℕ) → c < q.colum
 written-column q s a c v d g cn gn differ =
     get_or-set_other s (a * q.columns + c) (d * q.columns + g) v 0 (columns-differ q.columns a c d g cn gn differ)
 
--- the giver's cell loses one, and then the taker's gets one
+-- the giver's cell loses a seat, and then the taker's cell gets one
 pub PassesOn-of : (q : Question) (s : List ℕ) (step : Transfer) → length s ≡ q.rows * q.columns → step.giver < q.rows → step.taker < q.rows →
     step.column < q.columns → 0 < cell q.columns s step.giver step.column →
     (m : List ℕ) → m ≡ set s (step.giver * q.columns + step.column) (cell q.columns s step.giver step.column - 1) →
@@ -113,7 +113,7 @@ PassesOn-of q s step long an bn cn some m is =
           ∙ ap (λ xs. cell q.columns xs d g) is ∙ written-column q s step.giver c less d g cn gn differ;
     }
 
--- one term changes by x and y
+-- a sum changes as its one changed term does
 sum_to-shifted : (n : ℕ) (f g : ℕ → ℕ) (j x y : ℕ) → j < n → ((i : ℕ) → i < n → i ≢ j → f i ≡ g i) → f j + x ≡ g j + y →
     sum_to n f + x ≡ sum_to n g + y
 sum_to-shifted zero f g j x y lt same here = absurd (omega arith)
@@ -155,7 +155,7 @@ row-passed q s t step cn P d dm =
     sum_to-shifted q.columns (cell q.columns t d) (cell q.columns s d) step.column (one_at step.giver d) (one_at step.taker d) cn
     (λ g gn differ. P.others d g dm gn differ) (P.column d dm)
 
--- and of a column
+-- the seats of a column
 pub column-passed : (q : Question) (s t : List ℕ) (step : Transfer) → step.giver < q.rows → step.taker < q.rows → PassesOn q s t step →
     (g : ℕ) → g < q.columns → sum_to q.rows (λ d. cell q.columns t d g) ≡ sum_to q.rows (λ d. cell q.columns s d g)
 column-passed q s t step an bn P g gn = elim (cases_eq g step.column) [
@@ -175,11 +175,11 @@ column-passed q s t step an bn P g gn = elim (cases_eq g step.column) [
   | inr other ↦ sum_to-ext q.rows _ _ (λ d dm. P.others d g dm gn other)
 ]
 
--- a sum of one term more
+-- a sum with one more term
 one_more : (p : ℕ → ℕ) (u v : ℕ) → v ≡ u + 1 → sum_to v p ≡ sum_to u p + p u
 one_more p u v is = ap (λ n. sum_to n p) is ∙ sum_to-suc u p
 
--- what the seats of one cell cost, before with v of them and afterwards with u
+-- the cost of one cell, with v seats before and u seats afterwards
 cell-cost : (p : ℕ → ℕ) (a b d u v : ℕ) → u + one_at a d ≡ v + one_at b d → (d ≡ a → 0 < v) → (d ≡ a → p (v - 1) ≤ p v) →
     sum_to u p + only a (λ e. p (v - 1)) d ≤ sum_to v p + only b (λ e. p v) d
 cell-cost p a b d u v moved some rising = elim (cases_eq d a) [
@@ -208,7 +208,7 @@ cell-cost p a b d u v moved some rising = elim (cases_eq d a) [
       ]
 ]
 
--- the cost falls by the giver's last price, and rises by at most the taker's next
+-- the cost falls by the price of the giver's last seat and rises by at most that of the taker's next seat
 pub cost-passed : (q : Question) (l : Logs) (s t : List ℕ) (step : Transfer) → step.giver < q.rows → step.taker < q.rows →
     step.column < q.columns →
     0 < cell q.columns s step.giver step.column →

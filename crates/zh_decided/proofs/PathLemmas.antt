@@ -1,4 +1,4 @@
--- The walk along the ways from a row that lacks a seat.
+-- The walk along the ways, from a row that is short of a seat.
 use Rattle.std.proofs.Common.{◌≡◌, ◌≢◌, ℕ, ◌<◌, ◌≤◌, Option, None, Some, IsSome, List, refl, ap, ◌∙◌, arith}
 use Rattle.zh_matrices.specs.Question.{Question, cell}
 use Rattle.zh_decided.specs.Bounds.{CellBounds}
@@ -6,12 +6,13 @@ use Rattle.zh_decided.specs.Ways.{ArePlaced, AreWays, CanGive, CanTake, ColumnLa
 use Rattle.zh_decided.specs.declared.ways.Source.TheVariants.{Giver, Spare}
 use Rattle.zh_decided.specs.declared.ways.Way.{Way}
 
--- the rank of a row with a way
+-- the rank of a row's way
 abbrev pub rank_of : Option Way → ℕ
 rank_of None = 0
 rank_of (Some way) = way.rank
 
--- seats were passed on to a row: it has nowhere more than it had, the columns have what they had, and so have the rows of lower rank
+-- the walk has reached this row: no cell of it has more seats than before, the columns have as many as before, and rows of
+-- lower rank are unchanged
 pub record IsOnWay (q : Question) (b : CellBounds) (before seats : List ℕ) (ways : List (Option Way)) (row : ℕ) : Type 0 where
   pub each_placed : ArePlaced q b seats
   pub same : placed q seats ≡ placed q before
@@ -21,7 +22,7 @@ pub record IsOnWay (q : Question) (b : CellBounds) (before seats : List ℕ) (wa
   pub below : (e f : ℕ) (way : Way) → e < q.rows → f < q.columns → way_at ways e ≡ Some way → way.rank < rank_of (way_at ways row) →
       cell q.columns seats e f ≡ cell q.columns before e f
 
--- where the way ends, its column lacks a seat
+-- at the end of the walk, the column is short of a seat
 pub spare-lacks : (q : Question) (b : CellBounds) (before seats : List ℕ) (ways : List (Option Way)) (row : ℕ) (way : Way) →
     AreWays q b before ways → IsOnWay q b before seats ways row → way_at ways row ≡ Some way → way.source ≡ Spare → ColumnLacks q seats way.column
 spare-lacks q b before seats ways row way all on there spare =
@@ -29,7 +30,7 @@ spare-lacks q b before seats ways row way all on there spare =
     let lacks : ColumnLacks q before way.column = rw spare at is.source in
     omega (arith, lacks, on.columns way.column is.column)
 
--- in the column of its way a row may have a seat more
+-- in the column of its way, a row is below its upper bound
 pub has-room : (q : Question) (b : CellBounds) (before seats : List ℕ) (ways : List (Option Way)) (row : ℕ) (way : Way) →
     AreWays q b before ways → IsOnWay q b before seats ways row → way_at ways row ≡ Some way →
     cell q.columns seats row way.column < cell q.columns b.most row way.column
@@ -37,7 +38,7 @@ has-room q b before seats ways row way all on there =
     let is : IsWay q b before ways row way = all row way on.here.row there in
     omega (arith, is.room, on.fewer way.column is.column)
 
--- a giver has more than its fewest seats there, and a lower rank
+-- the giver is above its lower bound in the column, and its way has a lower rank
 pub record IsNext (q : Question) (b : CellBounds) (seats : List ℕ) (ways : List (Option Way)) (row giver column : ℕ) : Type 0 where
   pub giver_row : giver < q.rows
   pub has_way : IsSome (way_at ways giver)
@@ -65,7 +66,7 @@ IsNext-of q b before seats ways row giver way all on there from =
       lower = lower;
     }
 
--- the way of a row, by its rank
+-- a row with a way of a rank below this one
 way-ranked : (o : Option Way) (rank : ℕ) → IsSome o → rank_of o < rank → (way : Way) × (o ≡ Some way) × (way.rank < rank)
 way-ranked (Some way) rank some lower = (way, refl, lower)
 way-ranked None rank some lower = cc

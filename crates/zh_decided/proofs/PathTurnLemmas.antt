@@ -1,4 +1,4 @@
--- Seats that are placed and passed on.
+-- Seats that are placed, and seats that move from row to row.
 use Rattle.std.proofs.Common.{◌≡◌, ◌≢◌, ℕ, ◌+◌, ◌-◌, ◌*◌, ◌/◌, ◌<◌, ◌≤◌, ◌⊎◌, List, length, set, inl, inr, sym, ap, ◌∙◌, arith}
 use Rattle.std.proofs.lemmas.Bool.{cases_eq}
 use Rattle.std.proofs.lemmas.List.{get_or-set_other, get_or-set_same, length-set}
@@ -49,7 +49,7 @@ IsOneMore-taken q seats d g long dm gn some =
       columns = λ f fn differ. sym (get_or-set_other seats at (d * q.columns + f) less 0 (columns-differ q.columns d g f differ));
     }
 
--- the sums of the lines
+-- the sums of rows and columns
 pub row-more : (q : Question) (s t : List ℕ) (d g : ℕ) → g < q.columns → IsOneMore q s t d g → row_seats q t d ≡ row_seats q s d + 1
 row-more q s t d g gn more =
     sum_to-one_more q.columns (cell q.columns s d) (cell q.columns t d) g gn more.columns more.here
@@ -71,7 +71,7 @@ placed-more : (q : Question) (s t : List ℕ) (d g : ℕ) → d < q.rows → g <
 placed-more q s t d g dm gn more =
     sum_to-one_more q.rows (row_seats q s) (row_seats q t) d dm (λ e em differ. row-same q s t d g e em differ more) (row-more q s t d g gn more)
 
--- the cells of two matrices of which one has one seat more
+-- the cells of two matrices, one of which has one more seat
 cell-cases : (q : Question) (s t : List ℕ) (d g e f : ℕ) → e < q.rows → f < q.columns → IsOneMore q s t d g →
     ((e ≡ d) × (f ≡ g)) ⊎ (cell q.columns t e f ≡ cell q.columns s e f)
 cell-cases q s t d g e f em fn more = elim (cases_eq e d) [
@@ -139,7 +139,7 @@ ArePlaced-taken q b s t d g dm gn less above before =
 pub placed-one_more : (q : Question) (s t : List ℕ) (d g : ℕ) → d < q.rows → g < q.columns → IsOneMore q s t d g → placed q t ≡ placed q s + 1
 placed-one_more = placed-more
 
--- a row e passes a seat in column g to row d: between, row d has one more
+-- a seat in column g moves from row e to row d: in between, in m, row d has one more
 pub lacks-passed : (q : Question) (b : CellBounds) (s m t : List ℕ) (d e g : ℕ) → e < q.rows → g < q.columns → e ≢ d → IsOneMore q s m d g →
     IsOneMore q t m e g → ArePlaced q b s → RowLacks q t e
 lacks-passed q b s m t d e g em gn differ more less before =

@@ -31,7 +31,7 @@ power-one n = rw (power-suc n 0, power-zero n) (omega arith)
 pub power-two : (n e : ℕ) → power n (2 * e) ≡ power n e * power n e
 power-two n e = let double : 2 * e ≡ e + e = omega arith in rw double (power-add n e e)
 
--- power by power
+-- a power of a power
 pub power-power : (n i j : ℕ) → power (power n i) j ≡ power n (i * j)
 power-power n i zero = let none : i * 0 ≡ 0 = omega arith in rw (power-zero (power n i), none, power-zero n) refl
 power-power n i (suc j) =
@@ -50,7 +50,7 @@ pub exponent_rises : (n i j : ℕ) → 0 < n → i ≤ j → power n i ≤ power
 unfolding power
 exponent_rises n i j positive le = pow-le-pow_right positive le
 
--- back from powers
+-- from the order of powers to the order of their bases or exponents
 pub base_less : (a b e : ℕ) → power a e < power b e → a < b
 base_less a b e lt =
     elim (cases_lt a b) [
@@ -65,7 +65,7 @@ exponent_less n i j positive lt =
       | inr le ↦ absurd (omega (arith, exponent_rises n j i positive le))
     ]
 
--- two units more
+-- an exponent that is larger by two
 pub power-four : (l : ℕ) → power 2 (l + 2) ≡ 4 * power 2 l
 power-four l =
     let split : l + 2 ≡ suc (suc l) = omega arith in

@@ -1,4 +1,4 @@
--- A cell that gets a seat more, for one less in its row and one less in its column.
+-- A cell that gets one more seat, while its row and its column each lose one elsewhere.
 use Rattle.std.proofs.Common.{◌≡◌, ◌≢◌, ℕ, ◌<◌, ◌≤◌, List, inl, inr, sym, ◌∙◌, arith}
 use Rattle.std.proofs.lemmas.Bool.{cases_eq, cases_lt}
 use Rattle.std.proofs.Math.Nat.{le_of_eq}
@@ -18,7 +18,7 @@ placed-within q b s within = record {
   at_most = within.at_most;
 }
 
--- where no other cell of its row, or of its column, can give up a seat, a cell has nowhere more
+-- if no other cell of its row, or of its column, can give up a seat, no matrix within the bounds has more seats in the cell
 pub no_other_column : (q : Question) (b : CellBounds) (s : List ℕ) (d g : ℕ) → d < q.rows → g < q.columns → IsWithin q b s → HasNoOtherColumn q b s d g →
     (t : List ℕ) → IsWithin q b t → cell q.columns t d g ≤ cell q.columns s d g
 no_other_column q b s d g dm gn within none t other = elim (cases_lt (cell q.columns s d g) (cell q.columns t d g)) [
@@ -49,14 +49,14 @@ no_other_row q b s d g dm gn within none t other = elim (cases_lt (cell q.column
   | inr le ↦ le
 ]
 
--- a row and a column that gave up a seat
+-- the matrix after a row and a column have each given up a seat
 pub record IsOpened (q : Question) (b : CellBounds) (s m : List ℕ) (d g : ℕ) : Type 0 where
   pub each_placed : ArePlaced q b m
   pub row_lacks : RowLacks q m d
   pub column_lacks : ColumnLacks q m g
   pub same : cell q.columns m d g ≡ cell q.columns s d g
 
--- the second may still give one up after the first did
+-- the second row can still give one up after the first has
 pub still-above : (q : Question) (b : CellBounds) (s m : List ℕ) (d g e f : ℕ) → e < q.rows → g < q.columns → e ≢ d → IsOneMore q m s d f →
     IsAboveLeast q b s e g → IsAboveLeast q b m e g
 still-above q b s m d g e f em gn differs first above = omega (arith, above, first.rows e g em gn differs)

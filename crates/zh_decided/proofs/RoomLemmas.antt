@@ -1,4 +1,4 @@
--- Columns with room: no level brings them down to 0.
+-- Columns so high that no level brings them down to 0.
 use Rattle.std.proofs.Common.{◌≡◌, ℕ, ◌+◌, ◌-◌, ◌*◌, ◌^◌, ◌<◌, ◌≤◌, Option, Some, None, List, All, length, arith}
 use Rattle.std.proofs.Math.Nat.{mul-le-mul_right}
 use Rattle.zh_matrices.specs.Question.{Question, cell}
@@ -46,7 +46,7 @@ no_low_column m bounds levels columns rows near given taken few R low has =
     low.within taken (has.each low.column low.within) (rows-high m bounds levels columns rows near given few has R) low.is.maker in
     omega (arith, low.low, has.free.column_floor, high)
 
--- a level later there is room for one level less
+-- at the next level there is room for one level less
 pub room-later : (m : Priced) (bounds : Bounds) (levels : ℕ) (columns rows lower : List Mark) → AreNear60 m → bounds.given ≤ 2 ^ 36 →
     bounds.taken ≤ 2 ^ 36 → levels + 1 ≤ 32 → AreRowMarks m bounds columns rows → AreColumnMarks m bounds rows columns lower →
     HasRoom m bounds (levels + 1) columns → HasRoom m bounds levels lower
@@ -66,7 +66,7 @@ cell-within m n d g dm gn =
     let rows : (d + 1) * n ≤ m * n = mul-le-mul_right n (omega arith) in
     omega arith
 
--- the prices of seats are
+-- the prices of seats are near 2^60
 pub priced-near : (q : Question) (l : Logs) (seats : List ℕ) → AreLogs l → length l.of_votes ≡ q.rows * q.columns →
     length seats ≡ q.rows * q.columns → All (λ s. s ≤ 400) seats → AreNear60 (priced q l seats)
 priced-near q l seats logs votes long few = record {

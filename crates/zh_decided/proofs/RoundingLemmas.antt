@@ -1,4 +1,4 @@
--- What rounding a number costs: one more in a number against its powers.
+-- What rounding a number costs: powers of a + 1 against powers of a.
 use Rattle.std.proofs.Common.{◌≡◌, ℕ, zero, suc, refl, ap, ◌+◌, ◌-◌, ◌*◌, ◌<◌, ◌≤◌, arith}
 use Rattle.std.proofs.Math.Nat.{mul-le-mul, mul-le-mul_left, mul-le-mul_right, le_of_mul-le-mul_right}
 use Rattle.zh_decided.specs.Logarithms.{log_unit, power}
@@ -39,7 +39,7 @@ at_least_double a positive =
     let both : 2 * power a a * a ≤ power (a + 1) a * a = omega arith in
     le_of_mul-le-mul_right both positive
 
--- one more, to the power n k, costs at most k doublings
+-- from a to a + 1, the power n k is multiplied by at most 2^k
 pub costs_at_most : (a n k u : ℕ) → n * k ≡ u → 2 * n ≤ a + 1 → power (a + 1) u ≤ power 2 k * power a u
 costs_at_most a n k u e le =
     let one : power (power (a + 1) n) k ≤ power (2 * power a n) k = power_rises (power (a + 1) n) (2 * power a n) k (at_most_double a n le) in
@@ -64,7 +64,7 @@ rising_faster a (suc m) =
     square-split zero = refl
     square-split (suc n) = let less : suc n - 1 ≡ n = omega arith in rw less (omega arith)
 
--- 2 a^m ≤ (a + 1)^m from some m below a on
+-- 2 a^m ≤ (a + 1)^m already for some m below a
 pub doubles_faster : (a m : ℕ) → 0 < a → 2 * a * a ≤ 2 * a * m + m * (m - 1) → 2 * power a m ≤ power (a + 1) m
 doubles_faster a m positive enough =
     let b : ℕ = 2 * a * a in
@@ -73,7 +73,7 @@ doubles_faster a m positive enough =
     let both : 2 * power a m * b ≤ power (a + 1) m * b = omega arith in
     le_of_mul-le-mul_right both (mul-le-mul (mul-le-mul {n₁ = 1} {m₁ = 1} (omega arith) positive) positive)
 
--- and at least k, where one more to the power m doubles, and m k is at most the power
+-- the power u is multiplied by at least 2^k, if the power m doubles and m k is at most u
 pub costs_at_least : (a m k u : ℕ) → 2 * power a m ≤ power (a + 1) m → m * k ≤ u → power 2 k * power a u ≤ power (a + 1) u
 costs_at_least a m k u doubles le =
     let rest : ℕ = u - m * k in

@@ -1,4 +1,4 @@
--- Divisors that have potentials for their logarithms give the seats for which these stand still.
+-- Divisors whose logarithms come from fair potentials give the seats.
 use Rattle.std.proofs.Common.{◌≡◌, ℕ, ◌+◌, ◌-◌, ◌*◌, ◌^◌, ◌<◌, ◌≤◌, List, slice_index, inl, inr, ap, arith}
 use Rattle.std.proofs.lemmas.Bool.{cases_lt}
 use Rattle.std.proofs.Math.Nat.{le_of_lt, mul-pos}
@@ -18,7 +18,7 @@ use Rattle.zh_decided.specs.Tables.{AreLogTables}
 use Rattle.zh_decided.proofs.CellLemmas.{above-lower, below-upper, nearly-above-lower, nearly-below-upper}
 use Rattle.zh_decided.proofs.TableLemmas.{near-factor, price-is}
 
--- their logarithms are these potentials, but for an error e, where the square of the scale has `unit` for its own
+-- the logarithms of the divisors are these potentials, up to an error e; `unit` is the logarithm of the square of the scale
 pub record AreScaled (q : Question) (e : ℕ) (x : Divisors) (of_row of_column : ℕ → ℕ) : Type 0 where
   pub unit : ℕ
   pub row_log : ℕ → ℕ
@@ -63,7 +63,7 @@ cell-rounds q l e x bounds X Y seats A T totals F K fair given taken d g dm gn =
           }
     ]
 
--- strictly, where the slacks are what logarithms and rounding cost
+-- the seats follow strictly if the slacks cover the errors of the logarithms and of the rounding
 pub strict : (q : Question) (l : Logs) (e : ℕ) (x : Divisors) (bounds : Bounds) (X Y : ℕ → ℕ) (seats : List ℕ) → AreLogs l → AreLogTables q l →
     AreSeatTotals q.rows q.row_totals → FitsVotes q seats → AreScaled q e x X Y → AreFair (priced q l seats) bounds 0 0 X Y →
     4 + 2 * e ≤ bounds.given → 6 ≤ bounds.taken → IsStrict q x seats
@@ -110,7 +110,7 @@ cell-nearly q l e a b x bounds X Y seats A T totals F K fair given taken d g dm 
           }
     ]
 
--- nearly, where they are short of that by less than the logarithm of the factor
+-- the seats nearly follow if the slacks fall short of that by at most the logarithm of the factor
 pub near : (q : Question) (l : Logs) (e a b : ℕ) (x : Divisors) (bounds : Bounds) (X Y : ℕ → ℕ) (seats : List ℕ) → AreLogs l → AreLogTables q l →
     AreSeatTotals q.rows q.row_totals → FitsVotes q seats → AreScaled q e x X Y → AreFair (priced q l seats) bounds a b X Y →
     a + 4 + 2 * e ≤ bounds.given + 8192 → b + 6 ≤ bounds.taken + 8192 → IsNear q x seats

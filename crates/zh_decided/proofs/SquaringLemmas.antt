@@ -1,4 +1,4 @@
--- Squarings give each number one logarithm, and no larger number a smaller one.
+-- Squarings give each number at most one logarithm, and no larger number a smaller one.
 use Rattle.std.proofs.Common.{◌≡◌, ℕ, zero, suc, ◌+◌, ◌-◌, ◌*◌, ◌^◌, ◌<◌, ◌≤◌, ◌⊎◌, inl, inr, ap, ◌∙◌, Bool, true, false, if◌then◌else◌, arith, add-one}
 use Rattle.std.proofs.lemmas.Bool.{cases_order}
 use Rattle.std.proofs.lemmas.Nat.{pow-add}
@@ -8,7 +8,7 @@ use Rattle.zh_decided.specs.Logarithms.{HasLogarithm, IsAntilogarithm, IsCutSqua
 use Rattle.zh_decided.proofs.ApproximationLemmas.{Approximates}
 use Rattle.zh_decided.proofs.PowerLemmas.{power-is, power-one}
 
--- numbers from 2^63 to 2^64 at different whole parts
+-- mantissas from 2^63 to 2^64 with different whole parts of the logarithm
 higher : (m m' l l' : ℕ) → l' < l → 2 ^ 63 ≤ m → m' < 2 ^ 64 → m * 2 ^ l ≤ m' * 2 ^ l' → ⊥
 higher m m' l l' less least fits products =
     let rises : 2 ^ (l' + 1) ≤ 2 ^ l = pow-le-pow_right {n = 2} (omega arith) {i = l' + 1} {j = l} (omega arith) in
@@ -34,7 +34,7 @@ shifted-in-order n k m m' l l' le S T =
       | inr (inr more) ↦ absurd (higher m m' l l' more S.least T.fits products)
     ]
 
--- and so are those of their squares
+-- the same holds for their squares
 cut-in-order : (b b' l l' old old' m m' : ℕ) (twice twice' : Bool) → b ≡ b' → old ≤ old' → IsCutSquare old m twice → IsCutSquare old' m' twice' →
     l ≡ 2 * b + (if twice then 1 else 0) → l' ≡ 2 * b' + (if twice' then 1 else 0) → (l < l') ⊎ ((l ≡ l') × (m ≤ m'))
 cut-in-order b b' l l' old old' m m' true true same le S T at at' =
@@ -60,7 +60,7 @@ in-order n k (suc i) m m' l l' le S T = elim (in-order n k i S.0 T.0 S.1 T.1 le 
   | inr same ↦ cut-in-order S.1 T.1 l l' S.0 T.0 m m' S.2 T.2 same.0 same.1 S.4 T.4 S.5 T.5
 ]
 
--- logarithms are in the order of the numbers, and each number has one
+-- logarithms are in the order of the numbers, and each number has at most one
 pub rises : (n k l l' : ℕ) → n ≤ k → HasLogarithm n l → HasLogarithm k l' → l ≤ l'
 rises n k l l' le L M = elim (in-order n k 30 L.mantissa M.mantissa l l' le L.squared M.squared) [
   | inl less ↦ omega (arith, less)
@@ -79,11 +79,11 @@ no-greater l most n k A B = elim (cases_order n k) [
   | inr (inr more) ↦ omega (arith, more)
 ]
 
--- each logarithm has one number
+-- the antilogarithm is unique
 pub only-antilogarithm : (l most n k : ℕ) → IsAntilogarithm l most n → IsAntilogarithm l most k → k ≡ n
 only-antilogarithm l most n k A B = le_antisymm (no-greater l most n k A B) (no-greater l most k n B A)
 
--- a number that the code shifted
+-- the number as the code shifts it
 pub shifted-of : (n m l : ℕ) → 2 ^ 63 ≤ m → m < 2 ^ 64 → Approximates n 0 m l → IsSquared n 0 m l
 unfolding IsSquared
 shifted-of n m l least fits A =
@@ -95,7 +95,7 @@ digit-is : (t : ℕ) (twice : Bool) → t ≡ from_bool twice → t ≡ (if twic
 digit-is t true e = e
 digit-is t false e = e
 
--- one squaring more
+-- one more squaring
 pub squared-again : (n i m old before t : ℕ) (twice : Bool) → t ≡ from_bool twice → IsSquared n i old before → IsCutSquare old m twice →
     IsSquared n (i + 1) m (2 * before + t)
 unfolding IsSquared

@@ -1,4 +1,4 @@
--- Columns that do not fall stand still: the potentials are fair, and the greatest.
+-- If no column falls, the potentials are fair and the greatest.
 use Rattle.std.proofs.Common.{◌≡◌, ℕ, ◌<◌, ◌≤◌, None, List, arith}
 use Rattle.zh_decided.specs.Levels.{AreAbove, AreColumnMarks, AreRowMarks, mark_at, potential_at}
 use Rattle.zh_decided.specs.Prices.{Priced}
@@ -48,7 +48,7 @@ still m bounds columns rows lower p positive few_rows few_columns R L caps above
       greatest_columns = λ x y fair capped g gn. omega (arith, kept g gn, above x y fair capped g gn);
     }
 
--- a level later nothing fair lies above the columns either
+-- at the next level, too, no fair potentials are above the columns
 pub above-later : (m : Priced) (bounds : Bounds) (columns rows lower : List Mark) → AreRowMarks m bounds columns rows →
     AreColumnMarks m bounds rows columns lower → AreAbove m bounds columns → AreAbove m bounds lower
 above-later m bounds columns rows lower R L above x y fair capped g gn =
@@ -57,7 +57,7 @@ above-later m bounds columns rows lower R L above x y fair capped g gn =
       columns-above m bounds columns rows lower 0 0 0 x y R L fair capped.rows (λ f fn. omega (arith, above x y fair capped f fn)) g gn,
     )
 
--- nor below their caps
+-- at the next level, too, no column is above its cap
 pub caps-later : (m : Priced) (bounds : Bounds) (columns rows lower : List Mark) → AreColumnMarks m bounds rows columns lower →
     ((g : ℕ) → g < m.cells.columns → potential_at columns g ≤ bounds.column_cap) → (g : ℕ) → g < m.cells.columns →
     potential_at lower g ≤ bounds.column_cap

@@ -1,4 +1,4 @@
--- Tables of logarithms, and the prices by them.
+-- Tables of logarithms, and the prices that they give.
 use Rattle.std.proofs.Common.{◌≡◌, ℕ, ◌+◌, ◌-◌, ◌*◌, ◌^◌, ◌<◌, ◌≤◌, List, length, get_or, slice_index, arith}
 use Rattle.std.proofs.lemmas.List.Elements.{All-from_get_or}
 use Rattle.std.proofs.lemmas.Nat.{mul-add-lt}
@@ -9,11 +9,11 @@ use Rattle.zh_matrices.specs.Question.{Question, cell}
 use Rattle.zh_decided.specs.Prices.{AreLogs, Logs, seat_price}
 use Rattle.zh_decided.specs.Tables.{AreOddLogs, AreLogTables, AreVoteLogs}
 
--- the logarithm of 131073 / 131072
+-- the logarithm of 131073 / 131072 is at least 8192 units
 pub near-factor : HasFactor 131072 8192
 near-factor = factor 131072 8192 (omega arith) (omega arith)
 
--- odd numbers up to 801 are apart by more than this factor
+-- an odd number up to 801 and the next one differ by more than this factor
 pub odds-apart : (j k l : ℕ) → j ≤ 400 → IsLog 0 2 (2 * j + 1) k → IsLog 0 2 (2 * (j + 1) + 1) l → k + 8190 < l
 odds-apart j k l few L M =
     omega (arith, apart_by_factor 131072 8192 0 2 0 2 (2 * j + 1) (2 * (j + 1) + 1) k l near-factor L M (omega arith))
@@ -42,7 +42,7 @@ are-tables q of_votes of_odds sized V O long = record {
   odd_numbers = long;
 }
 
--- the price of a seat, and the logarithms that it is made of
+-- the price of a seat, by the logarithms that it is made of
 pub price-is : (q : Question) (l : Logs) → AreLogs l → AreLogTables q l → (d g j : ℕ) → d < q.rows → g < q.columns →
     seat_price l (d * q.columns + g) j + cell q.columns l.of_votes d g ≡ 2 ^ 60 + slice_index l.of_odds j
 price-is q l A T d g j dm gn =
@@ -50,7 +50,7 @@ price-is q l A T d g j dm gn =
     = A.small_votes (d * q.columns + g) 0 (omega (arith, T.one_each, mul-add-lt d q.columns g q.rows dm gn)) in
     omega arith
 
--- a next seat costs more than the last one of its cell, by more than the slacks
+-- the next seat of a cell costs at least 8190 units more than its last one, which is more than the slacks
 pub next-dearer : (q : Question) (l : Logs) → AreLogs l → AreLogTables q l → (d g s : ℕ) → d < q.rows → g < q.columns → 0 < s → s ≤ 400 →
     seat_price l (d * q.columns + g) (s - 1) + 8190 ≤ seat_price l (d * q.columns + g) s
 next-dearer q l A T d g s dm gn some few =

@@ -1,4 +1,4 @@
--- Floating divisors, and near ties under them.
+-- Floating-point divisors, and near ties under them.
 use Rattle.std.proofs.Common.{◌≡◌, ℕ, zero, suc, ◌+◌, ◌-◌, ◌*◌, ◌^◌, ◌<◌, ◌≤◌, List, get_or, slice_index, inl, inr, arith}
 use Rattle.std.proofs.lemmas.Bool.{cases_lt}
 use Rattle.zh_divisors.specs.Sums.{sum_to}
@@ -33,7 +33,7 @@ positive-term (suc n) f some =
           (before.0, omega (arith, before.1), before.2)
     ]
 
--- potentials that stand still lie near those of the divisor 1, since each row has a seat
+-- the potentials at which a sweep ends are small enough for floating-point divisors, since each row has a seat
 pub fit : (q : Question) (l : Logs) (seats : List ℕ) (given taken : ℕ) (p : Potentials) → AreLogs l → AreLogTables q l →
     AreSeatTotals q.rows q.row_totals → FitsVotes q seats → StandsFree (priced q l seats) given taken p → Fit q.rows q.columns p
 fit q l seats given taken p A T totals F S = record {
@@ -58,7 +58,7 @@ fit q l seats given taken p A T totals F S = record {
   columns = λ g gn. omega (arith, S.still.capped.columns g gn, S.free.column_cap);
 }
 
--- the divisors that they stand for
+-- the floating-point divisors of potentials
 pub scaled-floats : (q : Question) (p : Potentials) (x : FloatingDivisors) → Fit q.rows q.columns p → AreRowFloats q.rows p.of_rows x.of_rows →
     AreColumnFloats q.columns p.of_columns x.of_columns → AreScaled q 1 (floating x) (of_row p) (of_column p)
 scaled-floats q p x fits R C = record {
@@ -72,7 +72,7 @@ scaled-floats q p x fits R C = record {
   potentials = λ d g dm gn. omega (arith, fits.rows d dm);
 }
 
--- the matrix that a gap is about is near
+-- the matrix of a gap nearly follows from them
 pub one-near : (q : Question) (l : Logs) (seats : List ℕ) (gap : Gap) (x : FloatingDivisors) → AreLogs l → AreLogTables q l →
     AreSeatTotals q.rows q.row_totals → FitsVotes q seats → IsGap (priced q l seats) gap →
     AreScaled q 1 (floating x) (of_row gap.potentials) (of_column gap.potentials) → IsNear q (floating x) seats
@@ -80,7 +80,7 @@ one-near q l seats gap x A T totals F G K =
     near q l 1 0 0 (floating x) G.still.bounds (of_row gap.potentials) (of_column gap.potentials) seats A T totals F K G.still.still.fair
     (omega arith) (omega arith)
 
--- and so is that which its cycle makes of it
+-- so does the matrix in which its cycle is cancelled
 pub other-near : (q : Question) (l : Logs) (seats others : List ℕ) (gap : Gap) (x : FloatingDivisors) → AreLogs l → AreLogTables q l →
     AreSeatTotals q.rows q.row_totals → FitsVotes q others → IsGap (priced q l seats) gap → gap.cycle_at ≡ gap.still_at + 1 →
     gap.cycle_at ≤ 4108 → KeepsNearlyFair q gap.cycle seats others →
@@ -93,7 +93,7 @@ other-near q l seats others gap x A T totals F G one small keeps K =
     (keeps l b 1 (of_row gap.potentials) (of_column gap.potentials) A (rw slack at G.cycle) G.still.still.fair)
     (omega (arith, G.still.given_is, G.still.taken_is, G.cycle.circle.few)) (omega (arith, G.still.given_is, G.still.taken_is, G.cycle.circle.few))
 
--- it is another one
+-- the two matrices are different
 pub another : (q : Question) (l : Logs) (seats others : List ℕ) (gap : Gap) → AreLogs l → AreLogTables q l → AreSeatTotals q.rows q.row_totals →
     FitsVotes q seats → IsGap (priced q l seats) gap → gap.cycle_at ≤ 4108 → MakesAnother q gap.cycle seats others →
     ((k : ℕ) → slice_index seats k ≡ slice_index others k) → ⊥

@@ -1,4 +1,5 @@
--- A cycle that is cheaper than potentials allow by little: its cells are all but tight, and the matrix is all but fair once it is turned.
+-- A cycle that is only a little cheaper than the potentials allow: its steps are nearly tight, and the matrix is nearly fair
+-- once the cycle is cancelled.
 use Rattle.std.proofs.Common.{◌≡◌, ◌≢◌, ℕ, zero, suc, ◌+◌, ◌-◌, ◌*◌, ◌<◌, ◌≤◌, ◌⊎◌, List, inl, inr, refl, ap, arith}
 use Rattle.std.proofs.lemmas.Bool.{cases_eq}
 use Rattle.zh_divisors.specs.Sums.{sum_to}
@@ -15,21 +16,21 @@ use Rattle.zh_decided.proofs.CircleLemmas.{around, one_level_more}
 use Rattle.zh_decided.proofs.PassLemmas.{one-else, one-here}
 use Rattle.zh_decided.proofs.CycleTurnLemmas.{cell-fitting}
 
--- each term of a sum is below what the sum is below
+-- the sum of n equations h + k = f + g + s + e
 slack-sum : (n s : ℕ) (f g h k e : ℕ → ℕ) → ((j : ℕ) → j < n → h j + k j ≡ f j + g j + s + e j) →
     sum_to n h + sum_to n k ≡ sum_to n f + sum_to n g + n * s + sum_to n e
 slack-sum zero s f g h k e each = omega arith
 slack-sum (suc n) s f g h k e each =
     omega (arith, slack-sum n s f g h k e (λ j lt. each j (omega arith)), each n (omega arith), one_level_more n s)
 
--- by how much a step could cost less and keep the potentials fair
+-- how much less a step could cost without making the potentials unfair
 spare : Priced → Bounds → (ℕ → ℕ) → Cycle → ℕ → ℕ
 spare m bounds x cycle j =
     m.next (step_at cycle.steps j).taker (step_at cycle.steps j).column + x (step_at cycle.steps j).giver
     - (x (step_at cycle.steps j).taker + m.last (step_at cycle.steps j).giver (step_at cycle.steps j).column + (bounds.given +
     bounds.taken))
 
--- both parts of a step are within e of the slacks
+-- each half of a step exceeds its slack by less than e
 pub record IsTight (m : Priced) (bounds : Bounds) (cycle : Cycle) (x y : ℕ → ℕ) (e : ℕ) : Type 0 where
   pub given : (j : ℕ) → j < cycle.length →
       y (step_at cycle.steps j).column + m.next (step_at cycle.steps j).taker (step_at cycle.steps j).column
@@ -83,7 +84,7 @@ tight m bounds cycle x y more fair C =
           );
     }
 
--- a place with this value among the first n, or none
+-- g is one of the first n values of f, or none of them
 among : (n : ℕ) (f : ℕ → ℕ) (g : ℕ) → ((k : ℕ) × (k < n) × (g ≡ f k)) ⊎ ((k : ℕ) → k < n → g ≢ f k)
 among zero f g = inr (λ k lt. absurd (omega arith))
 among (suc n) f g = elim (cases_eq g (f n)) [
@@ -97,7 +98,7 @@ among (suc n) f g = elim (cases_eq g (f n)) [
   ]
 ]
 
--- what is left of a row's bound where its cell has u seats for v, and of a column's
+-- what is left of the bound of a row, and of a column, if the cell has u seats in place of v
 given-turned : (p : ℕ → ℕ) (a b d u v x y given taken e : ℕ) → Rise p → u ≤ 400 → u + one_at a d ≡ v + one_at b d → x + given ≤ y + p v →
     (d ≡ a → x < y + p (v - 1) + taken + e) → x + given ≤ y + p u + (given + taken + e)
 given-turned p a b d u v x y given taken e rise few moved fair tight = elim (cases_eq d a) [
@@ -144,7 +145,7 @@ taken-turned p a b d u v x y given taken e rise few moved some fair tight = elim
   ]
 ]
 
--- a tight cycle leaves potentials fair but for so much when it is turned
+-- after a tight cycle is cancelled, the potentials are fair up to the slacks and e
 pub turned-fair : (q : Question) (l : Logs) (bounds : Bounds) (before after : List ℕ) (cycle : Cycle) (x y : ℕ → ℕ) (e : ℕ) → AreLogs l →
     AreSeatTotals q.rows q.row_totals → FitsVotes q after → AreFair (priced q l before) bounds 0 0 x y → IsCircle (cells q before) cycle →
     IsTight (priced q l before) bounds cycle x y e → IsTurned q cycle before after →
@@ -185,7 +186,7 @@ turned-fair q l bounds before after cycle x y e logs totals F fair C tight T =
       ];
     }
 
--- a step that does not give to its own row, or none
+-- some step has a giver that is not its taker, or none has
 moving : (n : ℕ) (f g : ℕ → ℕ) → ((k : ℕ) × (k < n) × (f k ≢ g k)) ⊎ ((k : ℕ) → k < n → f k ≡ g k)
 moving zero f g = inr (λ k lt. absurd (omega arith))
 moving (suc n) f g = elim (cases_eq (f n) (g n)) [
@@ -209,7 +210,7 @@ sum_to-above (suc n) s f g each = omega (
       n s,
 )
 
--- where each next seat costs more than the last one and the slacks, a cycle that is turned makes another matrix
+-- if each next seat costs at least the last one plus the slack, cancelling a cycle makes a different matrix
 pub differs : (q : Question) (l : Logs) (slack : ℕ) (before after : List ℕ) (cycle : Cycle) → IsCycle (priced q l before) slack cycle →
     IsTurned q cycle before after →
     ((d g : ℕ) → d < q.rows → g < q.columns → 0 < cell q.columns before d g →

@@ -1,4 +1,4 @@
--- A trail that goes a level further back, the circle that it closes, and columns that stand still.
+-- A trail that goes one level further back, and what lowered its rows and columns.
 use Rattle.std.proofs.Common.{◌≡◌, ◌≢◌, ℕ, ◌+◌, ◌-◌, ◌<◌, ◌≤◌, Option, Some, None, cond, ltb, List, inl, inr, refl, sym, subst, arith}
 use Rattle.std.proofs.lemmas.Bool.{cases_eq, cond_above, cond_below}
 use Rattle.zh_decided.specs.Levels.{AreColumnMarks, AreRowMarks, IsRowMaker, IsTrail, MakesColumn, MakesRow, mark_at, potential_at}
@@ -10,7 +10,7 @@ use Rattle.zh_decided.specs.declared.prices.Mark.{Mark}
 use Rattle.zh_decided.specs.declared.cycles.Trail.{Trail}
 use Rattle.zh_decided.proofs.MarkLemmas.{IsColumnMaker}
 
--- what a row or a column was made by
+-- what lowered a row or a column
 row-uncapped : (m : Priced) (bounds : Bounds) (columns : List Mark) (d potential : ℕ) (maker : Option ℕ) →
     IsRowMaker m bounds columns d potential maker → potential < bounds.row_cap → maker ≡ None → ⊥
 row-uncapped m bounds columns d potential None made low is = omega arith
@@ -39,16 +39,16 @@ column-made m bounds rows before g potential d maker made is =
     let P : Option ℕ → Type 0 = λ o. IsColumnMaker m bounds rows before g potential o in
     subst P is made
 
--- the last step of a trail: its giver, its column and what that fell to
+-- the last step of a trail
 abbrev pub last_step : Trail → Transfer
 last_step trail = step_at trail.steps (trail.length - 1)
 
--- the potential of the last giver at the trail's first level
+-- the potential of the last giver at the earliest level of the trail
 abbrev pub last_potential : (m : Priced) (bounds : Bounds) (columns : List Mark) (trail : Trail) → IsTrail m bounds columns trail → ℕ
 last_potential m bounds columns trail T =
     T.value (trail.length - 1) + m.last (last_step trail).giver (last_step trail).column + bounds.taken
 
--- it was higher a level before
+-- it was higher one level before
 giver-fell : (m : Priced) (bounds : Bounds) (columns rows lower : List Mark) (trail : Trail) (T : IsTrail m bounds lower trail) →
     1 ≤ bounds.column_floor →
     AreColumnMarks m bounds rows columns lower → last_potential m bounds lower trail T < potential_at rows (last_step trail).giver
@@ -60,7 +60,7 @@ giver-fell m bounds columns rows lower trail T positive L =
     = (L.each g gn).taken (last_step trail).giver (T.giver (trail.length - 1) within) (T.seat (trail.length - 1) within) in
     omega (arith, T.below (trail.length - 1) within, L.floors g gn, taken)
 
--- so a column made it
+-- so a column lowered it
 pub source-there : (m : Priced) (bounds : Bounds) (columns rows lower : List Mark) (trail : Trail) → IsTrail m bounds lower trail →
     1 ≤ bounds.column_floor →
     AreRowMarks m bounds columns rows → AreColumnMarks m bounds rows columns lower → trail.source ≡ None → ⊥
@@ -77,7 +77,7 @@ pub source-of : (m : Priced) (bounds : Bounds) (lower : List Mark) (trail : Trai
 source-of m bounds lower trail f T is =
     row-made m bounds lower (last_step trail).giver (last_potential m bounds lower trail T) f trail.source T.source is
 
--- which fell at this level
+-- that column fell at this level
 source-fell : (m : Priced) (bounds : Bounds) (columns rows lower : List Mark) (trail : Trail) (f : ℕ) → IsTrail m bounds lower trail →
     1 ≤ bounds.column_floor →
     AreRowMarks m bounds columns rows → AreColumnMarks m bounds rows columns lower → trail.source ≡ Some f →
@@ -98,7 +98,7 @@ source-made m bounds columns rows lower trail f T positive R L is none =
     column-fell m bounds rows (potential_at columns f) f (potential_at lower f) (mark_at lower f).maker
     (L.each f (source-of m bounds lower trail f T is).column).maker (source-fell m bounds columns rows lower trail f T positive R L is) none
 
--- the values of a trail with one more
+-- the values of a trail with one more step
 valued : ℕ → ℕ → (ℕ → ℕ) → ℕ → ℕ
 valued n more value k = cond (ltb k n) (value k) more
 
@@ -110,7 +110,7 @@ valued-here : (n more k : ℕ) (value : ℕ → ℕ) → k ≡ n → valued n mo
 unfolding valued
 valued-here n more k value is = sym (cond_above k n (value k) more more (omega arith) refl)
 
--- the row that made a column, in its own marks
+-- the row that lowered a column, and what lowered that row
 made-row : (m : Priced) (bounds : Bounds) (columns rows lower : List Mark) (f d : ℕ) → 1 ≤ bounds.column_floor → f < m.cells.columns →
     AreRowMarks m bounds columns rows → AreColumnMarks m bounds rows columns lower → MakesColumn m bounds rows f (potential_at lower f) d →
     IsRowMaker m bounds columns d (potential_at lower f + m.last d f + bounds.taken) (mark_at rows d).maker
@@ -143,7 +143,7 @@ IsTrail-new m bounds columns rows lower trail f d positive fn R L made one giver
       source = rw (one, giver, column, source) (made-row m bounds columns rows lower f d positive fn R L D);
     }
 
--- the clauses of a trail with one step more
+-- `more` is the trail with one more step
 pub record HasMore (trail more : Trail) (giver column : ℕ) : Type 0 where
   pub length : more.length ≡ trail.length + 1
   pub same : (k : ℕ) → k < trail.length → step_at more.steps k ≡ step_at trail.steps k

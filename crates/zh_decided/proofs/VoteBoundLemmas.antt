@@ -1,4 +1,4 @@
--- Cells that are bounded by their votes: none without votes, and any number with votes.
+-- Cells bounded by their votes: no seats without votes, and any number with votes.
 use Rattle.std.proofs.Common.{◌≡◌, ℕ, ◌+◌, ◌*◌, ◌<◌, ◌≤◌, Bool, true, false, cond, ltb, List, length, get_or, slice_index, refl, ◌∙◌, arith}
 use Rattle.std.proofs.lemmas.Bool.{cond-false, cond-true, le-ltb, lt-ltb, ltb-true}
 use Rattle.zh_divisors.specs.Sums.{sum_to}
@@ -13,7 +13,7 @@ use Rattle.zh_decided.proofs.CutLemmas.{closed-for, due-less, others-least}
 use Rattle.zh_decided.proofs.ImpossibleLemmas.{seats_in, seats_of_rows}
 use Rattle.zh_decided.proofs.PathTurnLemmas.{cell-within}
 
--- such bounds
+-- the bounds that votes give
 pub record AreVoteBounds (q : Question) (b : CellBounds) : Type 0 where
   pub none : (k : ℕ) → slice_index b.least k ≡ 0
   pub by_votes : AreBoundByVotes q b.most
@@ -30,7 +30,7 @@ most-some q b d g bounds dm gn some =
     bounds.by_votes (d * q.columns + g) (cell-within q.rows q.columns d g dm gn)
     ∙ cond-true (ltb 0 (cell q.columns q.votes d g)) 401 0 (lt-ltb 0 (cell q.columns q.votes d g) some)
 
--- a matrix within them is one on the votes
+-- a matrix within these bounds is a matrix on the votes
 pub fits-within : (q : Question) (b : CellBounds) (seats : List ℕ) → AreVoteBounds q b → IsWithin q b seats → FitsVotes q seats
 fits-within q b seats bounds within = record {
   one_each = within.one_each;
@@ -47,7 +47,7 @@ kept-all : (b : Bool) (x : ℕ) → (b ≡ false → x ≡ 0) → x ≤ cond b x
 kept-all true x none = omega arith
 kept-all false x none = omega (arith, none refl)
 
--- a row with votes in a column may have a seat more there
+-- a row with votes in a column is below its upper bound there
 has-room : (q : Question) (b : CellBounds) (seats : List ℕ) (d g : ℕ) → AreVoteBounds q b → AreSeatTotals q.rows q.row_totals → ArePlaced q b seats →
     d < q.rows → g < q.columns → 0 < cell q.columns q.votes d g → cell q.columns seats d g < cell q.columns b.most d g
 has-room q b seats d g bounds totals placed dm gn votes =
@@ -60,7 +60,7 @@ has-room q b seats d g bounds totals placed dm gn votes =
       most-some q b d g bounds dm gn votes,
     )
 
--- a column in which blocked rows have votes is full of their seats
+-- in a column in which blocked rows have votes, they have all seats
 there-le : (q : Question) (b : CellBounds) (seats : List ℕ) (rows : List Bool) → AreVoteBounds q b → AreSeatTotals q.rows q.row_totals →
     AreBlocked q b seats rows → (g : ℕ) → g < q.columns → (some : Bool) → ltb 0 (votes_among q rows g) ≡ some →
     cond some (slice_index q.column_totals g) 0 ≤ seats_in q rows seats g
@@ -83,7 +83,7 @@ too_few q b seats rows bounds totals blocked =
     = sum_to-le q.columns _ _ (λ g gn. there-le q b seats rows bounds totals blocked g gn (ltb 0 (votes_among q rows g)) refl) in
     omega (arith, there, seats_of_rows q rows seats, due-less q b seats rows blocked)
 
--- no seats at all
+-- all terms are 0
 zero_sum : (n : ℕ) (f : ℕ → ℕ) → ((i : ℕ) → f i ≡ 0) → sum_to n f ≡ 0
 zero_sum n f none = sum_to-zero n f (λ i lt. none i)
 

@@ -24,7 +24,7 @@ RanksAreBelow q ways rank = (d : ℕ) (way : Way) → d < q.rows → way_at ways
 abbrev pub count : ℕ → List (Option Way) → ℕ
 count n ways = sum_to n (λ d. one_if (is_some (way_at ways d)))
 
--- the ways of one table are those of the other
+-- every way of one table is in the other
 abbrev Extends : List (Option Way) → List (Option Way) → Type 0
 Extends ways more = (d : ℕ) (way : Way) → way_at ways d ≡ Some way → way_at more d ≡ Some way
 
@@ -111,7 +111,7 @@ one_if-le : (b : Bool) → one_if b ≤ 1
 one_if-le true = omega arith
 one_if-le false = omega arith
 
--- where as many rows have a way as there are, each has one
+-- if as many rows have a way as there are rows, each row has one
 pub each_has_way : (n : ℕ) (ways : List (Option Way)) → count n ways ≡ n → (d : ℕ) → d < n → ¬ (way_at ways d ≡ None)
 each_has_way n ways all d dm none =
     let one : one_if (is_some (way_at ways d)) ≡ 1
@@ -120,7 +120,7 @@ each_has_way n ways all d dm none =
     let no : one_if (is_some (way_at ways d)) ≡ 0 = ap (λ o. one_if (is_some o)) none in
     absurd (omega arith)
 
--- a row with a new way does not lack a seat either
+-- no row with a way is short of a seat, if the row with the new way is not
 pub none_lacks-set : (q : Question) (seats : List ℕ) (ways : List (Option Way)) (row : ℕ) (way : Way) → (RowLacks q seats row → ⊥) →
     ((d : ℕ) → d < q.rows → IsSome (way_at ways d) → get_or q.row_totals d 0 ≤ row_seats q seats d) →
     (d : ℕ) → d < q.rows → IsSome (way_at (set ways row (Some way)) d) → get_or q.row_totals d 0 ≤ row_seats q seats d
@@ -146,7 +146,7 @@ none_lacks-none q seats ways none d dm some =
 pub not-both : {P : Type 0} (b : Bool) → (IsTrue b ↔ P) → P → b ≡ false → ⊥
 not-both b tells holds fails = let passes : IsTrue b = tells.1 holds in cc
 
--- a way through a column with a source, after those of lower ranks
+-- if all ways have lower ranks, so does the way of a source
 IsSource-below : (q : Question) (b : CellBounds) (seats : List ℕ) (ways : List (Option Way)) (g rank : ℕ) (source : Source) →
     RanksAreBelow q ways rank → IsSource q b seats ways g source → GivesBelow ways rank source
 IsSource-below q b seats ways g rank Spare ranks lacks = tt
@@ -165,7 +165,7 @@ IsWay-of q b seats ways sources d way all ranks column room is = record {
   below = IsSource-below q b seats ways way.column way.rank way.source ranks (all way.column way.source column is);
 }
 
--- no sources yet
+-- a table without sources
 pub AreSources-none : (q : Question) (b : CellBounds) (seats : List ℕ) (ways : List (Option Way)) (sources : List (Option Source)) →
     ((g : ℕ) → source_at sources g ≡ None) → AreSources q b seats ways sources
 AreSources-none q b seats ways sources none g source gn is = let nothing : source_at sources g ≡ None = none g in cc
@@ -176,14 +176,14 @@ no_sources n g = elim (cases_lt g n) [
   | inr outside ↦ get_or-eq_default (replicate n None) None (omega (arith, length-replicate {A = Option Source} n None))
 ]
 
--- a new table
+-- a new table has no ways
 pub all_none : (n d : ℕ) → way_at (replicate n None) d ≡ None
 all_none n d = elim (cases_lt d n) [
   | inl inside ↦ get_or-replicate n d None None inside
   | inr outside ↦ get_or-eq_default (replicate n None) None (omega (arith, length-replicate {A = Option Way} n None))
 ]
 
--- the test of a row without a way
+-- the test whether a row has a way
 pub none-tested : (o : Option Way) (none : Bool) → is_some o ≡ not none → none ≡ is_none o
 none-tested None true is = refl
 none-tested None false is = cc

@@ -1,4 +1,4 @@
--- The fewest seats of each cell, against any matrix within the bounds.
+-- The lower bounds of the cells, compared with a matrix within the bounds.
 use Rattle.std.proofs.Common.{◌≡◌, ℕ, ◌+◌, ◌*◌, ◌/◌, ◌%◌, ◌<◌, ◌≤◌, List, slice_index, sym, ◌∙◌, arith}
 use Rattle.std.proofs.Math.Nat.{div-add-mod', le_of_eq}
 use Rattle.zh_divisors.proofs.CallerLemmas.{sum_to-ext, sum_to-le}
@@ -8,14 +8,14 @@ use Rattle.zh_decided.specs.Bounds.{AreAtLeast, AreAtMost, CellBounds, IsWithin}
 use Rattle.zh_decided.specs.Ways.{AreBalanced, HaveColumnsRoom, HaveRowsRoom, column_seats, row_seats}
 use Rattle.zh_decided.proofs.PathTurnLemmas.{cell-within}
 
--- rows and columns of a matrix with all totals are to get as many seats
+-- if a matrix has all totals, the row totals and the column totals have the same sum
 pub balanced : (q : Question) (b : CellBounds) (t : List ℕ) → IsWithin q b t → AreBalanced q
 balanced q b t within =
     sym (sum_to-ext q.rows (row_seats q t) (slice_index q.row_totals) within.rows_add_up)
     ∙ total-swap q.rows q.columns (cell q.columns t)
     ∙ sum_to-ext q.columns (column_seats q t) (slice_index q.column_totals) within.columns_add_up
 
--- each cell has its fewest
+-- each cell is at its lower bound
 abbrev pub AreLeast : Question → CellBounds → List ℕ → Type 0
 AreLeast q b seats = (d g : ℕ) → d < q.rows → g < q.columns → cell q.columns seats d g ≡ cell q.columns b.least d g
 
@@ -45,7 +45,7 @@ least-columns q b seats t least within g gn =
       within.columns_add_up g gn,
     )
 
--- a cell by its place
+-- the bound of a cell, by its place
 pub at_most-at : (q : Question) (most seats : List ℕ) (k : ℕ) → k < q.rows * q.columns → AreAtMost q most seats → slice_index seats k ≤ slice_index most k
 at_most-at q most seats k lt each =
     let place : k / q.columns * q.columns + k % q.columns ≡ k = div-add-mod' k q.columns in

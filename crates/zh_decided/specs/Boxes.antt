@@ -10,7 +10,8 @@ use Rattle.zh_decided.specs.declared.sweep_bounds.Bounds.{Bounds}
 use Rattle.zh_decided.specs.declared.sweeps.Potentials.{Potentials}
 use Rattle.zh_decided.specs.Tables.{AreLogTables}
 
--- bounds for divisors from 2^bits millionths to the limits, with what rounding such numbers costs for a slack
+-- the bounds of a sweep for divisors from 2^bits millionths to the limits; the slacks cover the rounding of divisors and the
+-- errors of logarithms
 pub record IsBox (bits : ℕ) (bounds : Bounds) : Type 0 where
   pub scale : ℕ
   pub most : ℕ
@@ -25,7 +26,7 @@ pub record IsBox (bits : ℕ) (bounds : Bounds) : Type 0 where
   pub column_cap : bounds.column_cap ≡ scale
   pub column_floor : bounds.column_floor ≡ bits * log_unit
 
--- numbers from 2^bits to a most with these logarithms
+-- n numbers from 2^bits to `most` with these logarithms, rounded down
 pub record HaveLogs (bits most n : ℕ) (numbers : List ℕ) (logarithms : ℕ → ℕ) : Type 0 where
   pub one_each : length numbers ≡ n
   pub logs : (i : ℕ) → i < n → IsLog (2 ^ (31 - bits)) 2 (slice_index numbers i) (logarithms i)
@@ -33,20 +34,21 @@ pub record HaveLogs (bits most n : ℕ) (numbers : List ℕ) (logarithms : ℕ �
   pub at_most : (i : ℕ) → i < n → slice_index numbers i ≤ most
   pub antilogarithms : (i : ℕ) → i < n → IsAntilogarithm (logarithms i) most (slice_index numbers i)
 
--- the greatest potentials for these seats in the box of divisors from 2^bits millionths on
+-- the potentials at which the sweep for these seats ends, in the box of divisors from 2^bits millionths on
 pub record StandsInBox (q : Question) (l : Logs) (seats : List ℕ) (bits : ℕ) (p : Potentials) : Type 0 where
   pub bounds : Bounds
   pub box : IsBox bits bounds
   pub still : IsStill (priced q l seats) bounds p
 
--- divisors with such potentials for their logarithms, rounded down
+-- the divisors are the antilogarithms that belong to such potentials
 pub record AreInBox (q : Question) (l : Logs) (seats : List ℕ) (bits : ℕ) (of_rows of_columns : List ℕ) : Type 0 where
   pub potentials : Potentials
   pub stands : StandsInBox q l seats bits potentials
   pub rows : (d : ℕ) → d < q.rows → IsAntilogarithm (2 ^ 60 + stands.box.scale - of_row potentials d) (10 ^ 18) (slice_index of_rows d)
   pub columns : (g : ℕ) → g < q.columns → IsAntilogarithm (of_column potentials g) (10 ^ 12) (slice_index of_columns g)
 
--- in the first of the boxes from 2^20, 2^16, 2^12, 2^8 and 2^4 on in which the seats stand still
+-- these divisors are those of the first box in which the sweep for the seats ends at potentials, of the boxes from 2^20, 2^16,
+-- 2^12, 2^8 and 2^4 on
 pub record AreInFirstBox (q : Question) (seats of_rows of_columns : List ℕ) : Type 0 where
   pub logs : Logs
   pub tables : AreLogTables q logs
@@ -55,17 +57,18 @@ pub record AreInFirstBox (q : Question) (seats of_rows of_columns : List ℕ) : 
   pub in_box : AreInBox q logs seats (20 - 4 * smaller) of_rows of_columns
   pub before : (k : ℕ) → k < smaller → (p : Potentials) → ¬ StandsInBox q logs seats (20 - 4 * k) p
 
--- divisors in millionths, within the limits, that give these seats and no others, and which ones
+-- divisors in millionths within the limits that give these seats, with no quotient on a half, and that are those of the first
+-- box
 pub record GiveWithin (q : Question) (of_rows of_columns seats : List ℕ) : Type 0 where
   pub limits : AreWithinLimits q of_rows of_columns
   pub strict : IsStrict q (millionths of_rows of_columns) seats
   pub first : AreInFirstBox q seats of_rows of_columns
 
--- no divisors are given so, whatever the seats
+-- no divisors are given in this way, whatever the seats
 abbrev pub NoneGiven : Question → Type 0
 NoneGiven q = (of_rows of_columns seats : List ℕ) → ¬ GiveWithin q of_rows of_columns seats
 
--- from 1.05 to 999,900 for a column, and to 999,900,000,000 for a row
+-- divisors in millionths: 1.05 to 999,900,000,000 for each row, 1.05 to 999,900 for each column
 pub record AreInRange (q : Question) (of_rows of_columns : List ℕ) : Type 0 where
   pub row_least : (d : ℕ) → d < q.rows → 1050000 ≤ slice_index of_rows d
   pub row_most : (d : ℕ) → d < q.rows → slice_index of_rows d ≤ 999900000000000000

@@ -1,4 +1,4 @@
--- What is decided of a question, and on what it rests.
+-- What is decided for a question, and what that says.
 use Rattle.std.specs.Prelude.{ℕ, List, Option, Some, None}
 use Rattle.zh_decided.specs.Floats.{floating}
 use Rattle.zh_decided.specs.declared.floating.FloatingDivisors.{FloatingDivisors}
@@ -13,12 +13,12 @@ use Rattle.zh_decided.specs.declared.decision.Decision.{Decision}
 use Rattle.zh_decided.specs.declared.decision.Decision.TheVariants.{Beyond, Impossible, NearlyTied, Seats}
 use Rattle.zh_decided.specs.Rooms.{Findings}
 
--- the seats follow strictly from some divisors, but from none in millionths in the ranges; nor do any others
+-- the seats follow strictly from the divisors x, but no divisors in millionths in the ranges give these seats or any others
 pub record AreBeyond (q : Question) (x : Divisors) (seats : List ℕ) : Type 0 where
   pub strict : IsStrict q x seats
   pub none : (others : List ℕ) → NoneInRange q others
 
--- divisors of rows and columns in millionths give the seats, or they are beyond such divisors
+-- divisors of rows and columns in millionths give the seats, or the seats are beyond such divisors
 abbrev pub GivesOrBeyond : Question → List ℕ → List ℕ → List ℕ → Option FloatingDivisors → Type 0
 GivesOrBeyond q of_rows of_columns seats None = GiveWithin q of_rows of_columns seats
 GivesOrBeyond q of_rows of_columns seats (Some x) = AreBeyond q (floating x) seats
@@ -29,22 +29,22 @@ pub record AreFoundTied (q : Question) (x : Divisors) (findings : Findings) (d g
   pub other_fits : FitsVotes q findings.others
   pub tied : AreNearlyTied q x findings.seats findings.others d g
 
--- rows that have too few seats; seats with divisors in millionths; two matrices that are nearly tied; or seats that are beyond
--- the divisors of a sheet
+-- what each decision says: these rows have too few seats; divisors in millionths give the seats; two matrices are nearly tied;
+-- the seats are beyond the divisors of a sheet
 abbrev pub Decides : Question → Findings → Decision → Type 0
 Decides q findings (Impossible rows) = HasTooFewSeats q rows
 Decides q findings Seats = GiveWithin q findings.of_rows findings.of_columns findings.seats
 Decides q findings (NearlyTied d g x) = AreFoundTied q (floating x) findings d g
 Decides q findings (Beyond x) = AreBeyond q (floating x) findings.seats
 
--- unless it is that divisors in millionths give seats, none are given
+-- unless the decision is `Seats`, no divisors in millionths are given, whatever the seats
 abbrev pub LeavesNone : Question → Decision → Type 0
 LeavesNone q (Impossible rows) = NoneGiven q
 LeavesNone q Seats = Unit {0}
 LeavesNone q (NearlyTied d g x) = NoneGiven q
 LeavesNone q (Beyond x) = NoneGiven q
 
--- that there is no matrix
+-- the decision is that there is no matrix
 abbrev pub SaysImpossible : Decision → Type 0
 SaysImpossible (Impossible rows) = Unit {0}
 SaysImpossible _ = ⊥

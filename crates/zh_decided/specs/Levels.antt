@@ -1,4 +1,4 @@
--- One level of a sweep: each row and each column with its potential and the line that made it; and the trail by which
+-- One level of a sweep: each row and each column with its potential and the line that lowered it; and the trail along which
 -- columns fell from level to level.
 use Rattle.std.specs.Prelude.{◌≡◌, ◌≢◌, ℕ, ◌+◌, ◌-◌, ◌*◌, ◌^◌, ◌<◌, ◌≤◌, MatchOption, Option, Some, None, List, slice_index_or}
 use Rattle.zh_decided.specs.Prices.{Priced}
@@ -15,13 +15,13 @@ mark_at marks i = slice_index_or marks i (record { potential = 0; maker = None }
 abbrev pub potential_at : List Mark → ℕ → ℕ
 potential_at marks i = (mark_at marks i).potential
 
--- a column that makes a row
+-- `potential` is the greatest that column g allows row d
 pub record MakesRow (m : Priced) (bounds : Bounds) (columns : List Mark) (d potential g : ℕ) : Type 0 where
   pub column : g < m.cells.columns
   pub votes : 0 < m.cells.votes d g
   pub made : potential + bounds.given ≡ potential_at columns g + m.next d g
 
--- what made a row: a column, or the cap
+-- what limits the potential of a row: a column, or the cap
 abbrev pub IsRowMaker : Priced → Bounds → List Mark → ℕ → ℕ → Option ℕ → Type 0
 IsRowMaker m bounds columns d potential None = potential ≡ bounds.row_cap
 IsRowMaker m bounds columns d potential (Some g) = MakesRow m bounds columns d potential g
@@ -32,13 +32,14 @@ pub record IsRowMark (m : Priced) (bounds : Bounds) (columns : List Mark) (d : �
   pub given : (g : ℕ) → g < m.cells.columns → 0 < m.cells.votes d g → mark.potential + bounds.given ≤ potential_at columns g + m.next d g
   pub maker : IsRowMaker m bounds columns d mark.potential mark.maker
 
--- a row that lowers a column
+-- `potential` is the greatest that row d allows column g
 pub record MakesColumn (m : Priced) (bounds : Bounds) (rows : List Mark) (g potential d : ℕ) : Type 0 where
   pub row : d < m.cells.rows
   pub seat : 0 < m.cells.seats d g
   pub made : potential ≡ potential_at rows d - (m.last d g + bounds.taken)
 
--- the greatest potential of column g that is at most the one before and that the rows allow, and what row lowered it, if one did
+-- the greatest potential of column g that the rows allow and that is at most the one before; and the row that lowered it, if
+-- one did
 pub record IsColumnMark (m : Priced) (bounds : Bounds) (rows : List Mark) (before g : ℕ) (mark : Mark) : Type 0 where
   pub falls : mark.potential ≤ before
   pub taken : (d : ℕ) → d < m.cells.rows → 0 < m.cells.seats d g → mark.potential ≤ potential_at rows d - (m.last d g + bounds.taken)
@@ -69,8 +70,8 @@ pub record IsLowColumn (m : Priced) (bounds : Bounds) (rows before : List Mark) 
   pub is : IsColumnMark m bounds rows (potential_at before column) column mark
   pub low : mark.potential < bounds.column_floor
 
--- a trail goes back from a column that fell at the last level, each step a level earlier: the giver made the column, and the
--- column made the taker, the giver of the step before. `value` is what the columns fell to
+-- a trail goes back from a column that fell at the last level, one level per step: the giver lowered the column, and the column
+-- lowered the taker, which is the giver of the step before. `value` is the potential that each column fell to
 pub record IsTrail (m : Priced) (bounds : Bounds) (columns : List Mark) (trail : Trail) : Type 0 where
   pub value : ℕ → ℕ
   pub some : 1 ≤ trail.length
@@ -89,22 +90,22 @@ pub record IsTrail (m : Priced) (bounds : Bounds) (columns : List Mark) (trail :
       (value (trail.length - 1) + m.last (step_at trail.steps (trail.length - 1)).giver (step_at trail.steps (trail.length - 1)).column
       + bounds.taken) trail.source
 
--- columns that 33 levels cannot bring to 0
+-- columns so high that this level and `levels` more cannot bring them down to 0
 pub record HasRoom (m : Priced) (bounds : Bounds) (levels : ℕ) (columns : List Mark) : Type 0 where
   pub free : AreFree bounds
   pub each : (g : ℕ) → g < m.cells.columns → (levels + 1) * 2 ^ 38 + 1 ≤ potential_at columns g
 
--- a sweep that goes on out of its bounds
+-- the sweep leaves its bounds, and the columns are too low to rule that out
 pub record GoesOut (m : Priced) (bounds : Bounds) (levels : ℕ) (columns : List Mark) : Type 0 where
   pub out : AreOut m bounds levels (potential_at columns)
   pub no_room : ¬ HasRoom m bounds levels columns
 
--- no fair potentials under the caps lie above these columns
+-- no fair potentials under the caps are above these columns
 abbrev pub AreAbove : Priced → Bounds → List Mark → Type 0
 AreAbove m bounds columns = (x y : ℕ → ℕ) → AreFair m bounds 0 0 x y → AreCapped m bounds 0 x y → (g : ℕ) → g < m.cells.columns →
     y g ≤ potential_at columns g
 
--- how a sweep goes on from these columns, with so many levels after this one
+-- how a sweep ends from these columns on, with this level and `levels` more
 abbrev pub Descends : Priced → Bounds → ℕ → List Mark → Descent → Type 0
 Descends m bounds levels columns (descents.Still p) = IsStill m bounds p
 Descends m bounds levels columns (descents.Cycle cycle) = IsCycle m (bounds.given + bounds.taken) cycle

@@ -1,10 +1,11 @@
--- What seats cost: the price of a cell's seat number j, from 0, is the logarithm of 2 j + 1 less that of twice its votes. Of
--- the logarithms nothing is asked but that those of larger odd numbers are no smaller: prices rise with the seats of a cell.
+-- What seats cost: the price of seat number j of a cell, from 0, is 2^60 plus the logarithm of 2 j + 1, less that of twice the
+-- cell's votes. The logarithms need not be exact: they must be at most 2^36 and must not fall from one odd number to the next.
+-- So the prices of a cell never fall from seat to seat.
 use Rattle.std.specs.Prelude.{ℕ, ◌+◌, ◌-◌, ◌*◌, ◌^◌, ◌<◌, ◌≤◌, List, All, length, slice_index}
 use Rattle.zh_divisors.specs.Sums.{sum_to}
 use Rattle.zh_matrices.specs.Question.{Question, cell}
 
--- the logarithms of twice the votes of each cell, row by row, and of 1, 3, 5 ..
+-- the logarithms of twice the votes of each cell, row by row, and of the odd numbers from 1 on
 pub record Logs : Type 0 where
   pub of_votes : List ℕ
   pub of_odds : List ℕ
@@ -19,7 +20,7 @@ pub record AreLogs (l : Logs) : Type 0 where
 abbrev pub seat_price : Logs → ℕ → ℕ → ℕ
 seat_price l k j = 2 ^ 60 + slice_index l.of_odds j - slice_index l.of_votes k
 
--- votes and seats in rows and columns
+-- the votes and the seats of each cell, by row and column
 pub record Cells : Type 0 where
   pub rows : ℕ
   pub columns : ℕ
@@ -29,7 +30,7 @@ pub record Cells : Type 0 where
 abbrev pub cells : Question → List ℕ → Cells
 cells q seats = record { rows = q.rows; columns = q.columns; votes = cell q.columns q.votes; seats = cell q.columns seats }
 
--- with the price of the next seat of each cell and of its last
+-- such cells with the price of the next seat and of the last seat of each
 pub record Priced : Type 0 where
   pub cells : Cells
   pub next : ℕ → ℕ → ℕ
@@ -42,7 +43,7 @@ priced q l seats = record {
   last = λ d g. seat_price l (d * q.columns + g) (cell q.columns seats d g - 1);
 }
 
--- the price of all seats of a row, and of all together
+-- the price of all seats of a row, and of all seats of the matrix
 abbrev pub row_cost : Question → Logs → List ℕ → ℕ → ℕ
 row_cost q l seats d = sum_to q.columns (λ g. sum_to (cell q.columns seats d g) (seat_price l (d * q.columns + g)))
 

@@ -4,7 +4,7 @@ use Rattle.zh_decided.specs.Logarithms.{HasLogarithm, IsLog}
 use Rattle.zh_matrices.specs.Question.{Question, cell}
 use Rattle.zh_decided.specs.Prices.{Logs}
 
--- of twice the votes of each of so many cells
+-- the logarithm of twice the votes of each cell, 0 for a cell without votes
 pub record AreVoteLogs (votes logarithms : List ℕ) : Type 0 where
   pub one_each : length logarithms ≡ length votes
   pub logs : (k : ℕ) → k < length votes → 0 < slice_index votes k → IsLog 0 2 (2 * slice_index votes k) (slice_index logarithms k)
@@ -13,13 +13,14 @@ pub record AreVoteLogs (votes logarithms : List ℕ) : Type 0 where
       HasLogarithm (2 * slice_index votes k) (slice_index logarithms k)
   pub none : (k : ℕ) → k < length votes → slice_index votes k ≡ 0 → slice_index logarithms k ≡ 0
 
--- of 1, 3, 5 ..
+-- the logarithms of the odd numbers from 1 on
 pub record AreOddLogs (logarithms : List ℕ) : Type 0 where
   pub logs : (j : ℕ) → j < length logarithms → IsLog 0 2 (2 * j + 1) (slice_index logarithms j)
   pub small : (j : ℕ) → j < length logarithms → slice_index logarithms j ≤ 2 ^ 36
   pub logarithms_of : (j : ℕ) → j < length logarithms → HasLogarithm (2 * j + 1) (slice_index logarithms j)
 
--- of twice the votes of each cell of a question, 0 where there are none, and of 1, 3, 5 .. 801
+-- the logarithms of twice the votes of each cell of a question, 0 for a cell without votes, and of the odd numbers from 1 to
+-- 801
 pub record AreLogTables (q : Question) (l : Logs) : Type 0 where
   pub one_each : length l.of_votes ≡ q.rows * q.columns
   pub votes : (d g : ℕ) → d < q.rows → g < q.columns → 0 < cell q.columns q.votes d g →

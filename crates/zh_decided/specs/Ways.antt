@@ -1,4 +1,4 @@
--- Seats that are placed one by one, and the ways by which a row may take one more.
+-- Seats that are placed one at a time, and the ways in which a row can take one more (augmenting paths).
 use Rattle.std.specs.Prelude.{◌≡◌, ◌≢◌, ℕ, ◌+◌, ◌*◌, ◌<◌, ◌≤◌, Bool, nat_lt, if◌then◌else◌, Option, Some, None, IsSome, is_none}
 use Rattle.std.specs.Prelude.{List, length, slice_index, slice_index_or}
 use Rattle.zh_divisors.specs.Sums.{sum_to}
@@ -16,14 +16,14 @@ row_seats q seats d = sum_to q.columns (λ g. cell q.columns seats d g)
 abbrev pub column_seats : Question → List ℕ → ℕ → ℕ
 column_seats q seats g = sum_to q.rows (λ d. cell q.columns seats d g)
 
--- all that are placed, and all that are to be placed
+-- how many seats are placed, and how many are to be placed
 abbrev pub placed : Question → List ℕ → ℕ
 placed q seats = sum_to q.rows (λ d. row_seats q seats d)
 
 abbrev pub to_place : Question → ℕ
 to_place q = sum_to q.rows (λ d. slice_index q.row_totals d)
 
--- rows and columns are to get as many seats
+-- the row totals and the column totals have the same sum
 abbrev pub AreBalanced : Question → Type 0
 AreBalanced q = to_place q ≡ sum_to q.columns (λ g. slice_index q.column_totals g)
 
@@ -41,7 +41,7 @@ HaveRowsRoom q seats = (d : ℕ) → d < q.rows → row_seats q seats d ≤ slic
 abbrev pub HaveColumnsRoom : Question → List ℕ → Type 0
 HaveColumnsRoom q seats = (g : ℕ) → g < q.columns → column_seats q seats g ≤ slice_index q.column_totals g
 
--- no line has more, and each cell is within its bounds
+-- no line has more seats than its total, and each cell is within its bounds
 pub record ArePlaced (q : Question) (b : CellBounds) (seats : List ℕ) : Type 0 where
   pub one_each : length seats ≡ q.rows * q.columns
   pub rows : HaveRowsRoom q seats
@@ -49,16 +49,16 @@ pub record ArePlaced (q : Question) (b : CellBounds) (seats : List ℕ) : Type 0
   pub at_least : AreAtLeast q b.least seats
   pub at_most : AreAtMost q b.most seats
 
--- no seats where there are no votes, and more than a row may get where there are some
+-- the upper bound of a cell is 0 without votes, and more than a row can get with votes
 abbrev pub AreBoundByVotes : Question → List ℕ → Type 0
 AreBoundByVotes q most = (k : ℕ) → k < q.rows * q.columns →
     slice_index most k ≡ (if nat_lt 0 (slice_index q.votes k) then 401 else 0)
 
--- a cell has fewer seats than its most
+-- a cell has fewer seats than its upper bound
 abbrev pub IsBelowMost : Question → CellBounds → List ℕ → ℕ → ℕ → Type 0
 IsBelowMost q b seats d g = cell q.columns seats d g < cell q.columns b.most d g
 
--- a cell has more seats than its fewest
+-- a cell has more seats than its lower bound
 abbrev pub IsAboveLeast : Question → CellBounds → List ℕ → ℕ → ℕ → Type 0
 IsAboveLeast q b seats d g = cell q.columns b.least d g < cell q.columns seats d g
 
@@ -79,24 +79,24 @@ HasNoOtherColumn q b seats d g = (f : ℕ) → f < q.columns → f ≢ g → cel
 abbrev pub HasNoOtherRow : Question → CellBounds → List ℕ → ℕ → ℕ → Type 0
 HasNoOtherRow q b seats d g = (e : ℕ) → e < q.rows → e ≢ d → cell q.columns seats e g ≤ cell q.columns b.least e g
 
--- one cell has one seat more
+-- one cell has one more seat, and no other cell has changed
 pub record IsOneMore (q : Question) (before after : List ℕ) (d g : ℕ) : Type 0 where
   pub one_each : length after ≡ length before
   pub here : cell q.columns after d g ≡ cell q.columns before d g + 1
   pub rows : (e f : ℕ) → e < q.rows → f < q.columns → (e ≡ d → ⊥) → cell q.columns after e f ≡ cell q.columns before e f
   pub columns : (f : ℕ) → f < q.columns → (f ≡ g → ⊥) → cell q.columns after d f ≡ cell q.columns before d f
 
--- the way of a row
+-- the way of a row, if it has one
 abbrev pub way_at : List (Option Way) → ℕ → Option Way
 way_at ways d = slice_index_or ways d None
 
--- a row has a way, with a lower rank
+-- row d has a way of a lower rank
 pub record HasWayBelow (ways : List (Option Way)) (d rank : ℕ) : Type 0 where
   pub way : Way
   pub there : way_at ways d ≡ Some way
   pub below : way.rank < rank
 
--- a row that has a way can give up a seat in column g
+-- row d has a way and can give up a seat in column g
 pub record CanGive (q : Question) (b : CellBounds) (seats : List ℕ) (ways : List (Option Way)) (g d : ℕ) : Type 0 where
   pub row : d < q.rows
   pub has_way : IsSome (way_at ways d)
@@ -107,12 +107,12 @@ abbrev pub IsSource : Question → CellBounds → List ℕ → List (Option Way)
 IsSource q b seats ways g Spare = ColumnLacks q seats g
 IsSource q b seats ways g (Giver d) = CanGive q b seats ways g d
 
--- a giver has a way of lower rank
+-- if the source is a row, that row has a way of a lower rank
 abbrev pub GivesBelow : List (Option Way) → ℕ → Source → Type 0
 GivesBelow ways rank Spare = Unit {0}
 GivesBelow ways rank (Giver d) = HasWayBelow ways d rank
 
--- a way for row d to take a seat more: in a column where it has fewer than its most
+-- a way for row d to take one more seat, in a column where it is below its upper bound
 pub record IsWay (q : Question) (b : CellBounds) (seats : List ℕ) (ways : List (Option Way)) (d : ℕ) (way : Way) : Type 0 where
   pub column : way.column < q.columns
   pub room : IsBelowMost q b seats d way.column
@@ -127,12 +127,12 @@ abbrev pub HasNoGiver : Question → CellBounds → List ℕ → List (Option Wa
 HasNoGiver q b seats ways g = (d : ℕ) → d < q.rows → IsSome (way_at ways d) →
     cell q.columns seats d g ≤ cell q.columns b.least d g
 
--- no seat in column g can come from anywhere
+-- column g has its total, and no row with a way can give up a seat there
 pub record HasNoSource (q : Question) (b : CellBounds) (seats : List ℕ) (ways : List (Option Way)) (g : ℕ) : Type 0 where
   pub full : slice_index q.column_totals g ≤ column_seats q seats g
   pub no_giver : HasNoGiver q b seats ways g
 
--- sources of some columns
+-- the source of column g in a table, if it has one there
 abbrev pub source_at : List (Option Source) → ℕ → Option Source
 source_at sources g = slice_index_or sources g None
 
@@ -140,11 +140,11 @@ abbrev pub AreSources : Question → CellBounds → List ℕ → List (Option Wa
 AreSources q b seats ways sources = (g : ℕ) (source : Source) → g < q.columns → source_at sources g ≡ Some source →
     IsSource q b seats ways g source
 
--- where there is none in the table, there is none
+-- a column without a source in the table has no source at all
 abbrev pub AreAllSources : Question → CellBounds → List ℕ → List (Option Way) → List (Option Source) → Type 0
 AreAllSources q b seats ways sources = (g : ℕ) → g < q.columns → source_at sources g ≡ None → HasNoSource q b seats ways g
 
--- row d has its most in each column but closed ones
+-- row d is at its upper bound in every column that has a source
 abbrev pub HasNoWay : Question → CellBounds → List ℕ → List (Option Way) → ℕ → Type 0
 HasNoWay q b seats ways d = (g : ℕ) → g < q.columns → IsBelowMost q b seats d g → HasNoSource q b seats ways g
 
@@ -152,16 +152,16 @@ HasNoWay q b seats ways d = (g : ℕ) → g < q.columns → IsBelowMost q b seat
 abbrev pub AreAllFound : Question → CellBounds → List ℕ → List (Option Way) → Type 0
 AreAllFound q b seats ways = (d : ℕ) → d < q.rows → way_at ways d ≡ None → HasNoWay q b seats ways d
 
--- a search for a row that lacks a seat came to its end: none with a way lacks one, and no other row can get a way
+-- the search for a row that is short of a seat has failed: no row with a way is short of one, and no other row can get a way
 pub record IsStuck (q : Question) (b : CellBounds) (seats : List ℕ) (ways : List (Option Way)) : Type 0 where
   pub all_found : AreAllFound q b seats ways
   pub none_lacks : (d : ℕ) → d < q.rows → IsSome (way_at ways d) → slice_index q.row_totals d ≤ row_seats q seats d
 
--- the rows are those without a way
+-- `rows` marks the rows without a way
 abbrev pub AreWithoutWay : Question → List (Option Way) → List Bool → Type 0
 AreWithoutWay q ways rows = (d : ℕ) → d < q.rows → is_among rows d ≡ is_none (way_at ways d)
 
--- some seats are left to place, and these rows have no way to take one
+-- seats are left to place, and these rows have no way to take one
 pub record AreBlocked (q : Question) (b : CellBounds) (seats : List ℕ) (rows : List Bool) : Type 0 where
   pub some_left : placed q seats < to_place q
   pub each_placed : ArePlaced q b seats
@@ -169,14 +169,14 @@ pub record AreBlocked (q : Question) (b : CellBounds) (seats : List ℕ) (rows :
   pub stuck : IsStuck q b seats ways
   pub without : AreWithoutWay q ways rows
 
--- a row that lacks a seat has a way
+-- row d is short of a seat and has a way
 pub record CanTake (q : Question) (seats : List ℕ) (ways : List (Option Way)) (d : ℕ) : Type 0 where
   pub row : d < q.rows
   pub has_way : IsSome (way_at ways d)
   pub lacks : RowLacks q seats d
 
--- one row gave a seat in a column to another: the columns have as many seats as before, the other rows are as they were, and
--- nowhere does the giver have more
+-- a seat has moved within a column from one row to another: the columns have as many seats as before, the other rows are
+-- unchanged, and the giver has no more seats than before in any column
 pub record IsPassed (q : Question) (before after : List ℕ) (giver taker : ℕ) : Type 0 where
   pub placed : placed q after ≡ placed q before
   pub columns : (g : ℕ) → g < q.columns → column_seats q after g ≡ column_seats q before g

@@ -19,18 +19,19 @@ use crate::sweep_bounds::Bounds;
 use crate::sweeps::{Swept, sweep};
 use zh_matrices::{LINES, MOST_OF_COLUMN, MOST_OF_ROW};
 
-/// What potentials of rows are below.
+/// The base of the potentials of rows: such a potential is this plus a scale, less the logarithm of the row's divisor.
 const BASE: u64 = 1 << 60;
 /// The logarithm of 2.
 const UNIT: u64 = 1 << 30;
 
-/// Divisors from 2^bits millionths to the limits.
+/// The bounds of a sweep for divisors from 2^bits millionths to the limits of a sheet.
 fn box_from(bits: u32) -> Bounds
     requires some { 4 ≤ bits }
     requires few { bits ≤ 20 }
     ensures { IsBox bits result }
 {
-    // Twice the votes are taken 10^12 times, as the most of a column.
+    // Both divisors of a cell are in millionths, so twice its votes count 10^12 times. That number is also the greatest column
+    // divisor.
     let scale = logarithm(MOST_OF_COLUMN);
     let least = u64::from(bits) * UNIT;
     Bounds {
@@ -43,7 +44,7 @@ fn box_from(bits: u32) -> Bounds
     }
 }
 
-/// The logarithms from a top down to potentials.
+/// For each line, the logarithm that is `top` less its potential.
 fn below(top: u64, potentials: &[u64; LINES]) -> [u64; LINES]
     ensures { (i : ℕ) → i < 32 → slice_index result i ≡ top - slice_index potentials.now i }
 {
@@ -54,7 +55,7 @@ fn below(top: u64, potentials: &[u64; LINES]) -> [u64; LINES]
     logarithms
 }
 
-/// Numbers with these logarithms.
+/// Writes to `into` the numbers with these logarithms, from 2^bits to `most` and rounded down.
 fn take_numbers(logarithms: &[u64; LINES], bits: u32, most: u64, into: &mut [u64])
     requires some { 4 ≤ bits }
     requires few { bits ≤ 20 }
@@ -70,7 +71,8 @@ fn take_numbers(logarithms: &[u64; LINES], bits: u32, most: u64, into: &mut [u64
     }
 }
 
-/// Whether divisors from 2^bits millionths on give the seats, which are left behind.
+/// Whether the sweep for divisors from 2^bits millionths on ends at potentials. If so, divisors that give the seats are written
+/// to `of_rows` and `of_columns`.
 fn give_from(
     priced: &PricedSeats<'_>,
     bits: u32,
@@ -107,7 +109,8 @@ fn give_from(
     }
 }
 
-/// Whether divisors in millionths give the seats, in the first of five boxes that has some; they are left behind.
+/// Whether divisors in millionths give the seats, in one of five boxes: from 2^20, 2^16, 2^12, 2^8 and 2^4 millionths on. Those
+/// of the first box that has some are written to `of_rows` and `of_columns`.
 pub(crate) fn give_within(
     priced: &PricedSeats<'_>,
     of_rows: &mut [u64],

@@ -3,7 +3,7 @@ ghost use Rattle.std.specs.Prelude.{◌*◌, ◌≤◌, length, ◌≡◌, ℕ, 
 
 use zh_matrices::{LINES, Question};
 
-/// The fewest and the most seats that each cell of a question may have, row by row.
+/// The fewest and the most seats that each cell of a question may have (its lower and upper bound), row by row.
 #[derive(Drop)]
 pub struct CellBounds<'a> {
     pub question: &'a Question<'a>,
@@ -13,10 +13,10 @@ pub struct CellBounds<'a> {
     ghost each_most: { question.now.rows * question.now.columns ≤ length most.now },
 }
 
-/// The most cells of a matrix.
+/// The greatest number of cells of a matrix.
 pub(crate) const CELLS: usize = LINES * LINES;
 
-/// So many cells without seats.
+/// N cells without seats.
 pub(crate) fn no_seats<const N: usize>() -> [u32; N]
     ensures length { length result ≡ N }
     ensures zeros { (k : ℕ) → slice_index result k ≡ 0 }
@@ -24,7 +24,7 @@ pub(crate) fn no_seats<const N: usize>() -> [u32; N]
     [0; N]
 }
 
-/// Copies the numbers of all cells.
+/// Copies the numbers of all cells of a question.
 pub(crate) fn copy_cells(question: &Question<'_>, from: &[u32], into: &mut [u32])
     requires from { question.now.rows * question.now.columns ≤ length from.now }
     requires into { question.now.rows * question.now.columns ≤ length into.old }

@@ -1,4 +1,4 @@
-//! Seats that are placed one after the other along augmenting paths, until there is no way to place one.
+//! Seats are placed one at a time along augmenting paths, until no more can be placed.
 ghost use Rattle.std.specs.Prelude.{◌≡◌, ◌+◌, ◌<◌, IfErr, OnOk, length, ◌≢◌, ◌*◌};
 ghost use Rattle.zh_decided.specs.Bounds.{IsWithin, asked_in, bounds_of};
 ghost use Rattle.zh_decided.specs.Ways as words;
@@ -8,7 +8,7 @@ use crate::impossible::MarkedRows;
 use crate::ways::{Source, Way, column_lacks, reach, row_lacks};
 use zh_matrices::{LINES, row_sum};
 
-/// The rows that have no way.
+/// Marks the rows that have no way to take a seat.
 fn rows_without_way(bounds: &CellBounds<'_>, ways: &[Option<Way>]) -> MarkedRows
     requires { length ways.now ≡ 32 }
     ensures { words.AreWithoutWay (asked_in bounds.now) ways.now result }
@@ -34,7 +34,7 @@ fn seats_left(bounds: &CellBounds<'_>, seats: &[u32]) -> u64
     left
 }
 
-/// Places one seat more; or the rows that have no way to take one are returned.
+/// Places one more seat or returns the rows that have no way to take one.
 fn add_seat(bounds: &CellBounds<'_>, seats: &mut [u32]) -> Result<(), MarkedRows>
     requires placed { words.ArePlaced (asked_in bounds.now) (bounds_of bounds.now) seats.old }
     requires some_left { words.placed (asked_in bounds.now) seats.old < words.to_place (asked_in bounds.now) }
@@ -52,7 +52,8 @@ fn add_seat(bounds: &CellBounds<'_>, seats: &mut [u32]) -> Result<(), MarkedRows
     }
 }
 
-/// Places all seats that are left; or the rows that have no way to take one are returned. Rows and columns are to get as many seats.
+/// Places all seats that are left or returns the rows that have no way to take one. The row totals and the column totals must
+/// have the same sum.
 pub(crate) fn complete(bounds: &CellBounds<'_>, seats: &mut [u32]) -> Result<(), MarkedRows>
     requires balanced { words.AreBalanced (asked_in bounds.now) }
     requires placed { words.ArePlaced (asked_in bounds.now) (bounds_of bounds.now) seats.old }
@@ -65,7 +66,7 @@ pub(crate) fn complete(bounds: &CellBounds<'_>, seats: &mut [u32]) -> Result<(),
     Ok(())
 }
 
-/// A cell gets the seats that both its row and its column lack, up to its most.
+/// Fills a cell up to its upper bound, as long as both its row and its column are short of seats.
 fn fill_cell(bounds: &CellBounds<'_>, seats: &mut [u32], row: usize, column: usize)
     requires placed { words.ArePlaced (asked_in bounds.now) (bounds_of bounds.now) seats.old }
     requires row { row < bounds.now.question.now.rows }
@@ -81,7 +82,7 @@ fn fill_cell(bounds: &CellBounds<'_>, seats: &mut [u32], row: usize, column: usi
     }
 }
 
-/// Each cell in turn gets what its row and its column lack.
+/// Fills each cell in turn, as far as `fill_cell` does.
 pub(crate) fn fill_cells(bounds: &CellBounds<'_>, seats: &mut [u32])
     requires { words.ArePlaced (asked_in bounds.now) (bounds_of bounds.now) seats.old }
     ensures { words.ArePlaced (asked_in bounds.now) (bounds_of bounds.now) seats.new }
@@ -93,7 +94,7 @@ pub(crate) fn fill_cells(bounds: &CellBounds<'_>, seats: &mut [u32])
     }
 }
 
-/// A seat that one row gives another in a column.
+/// A seat that moves from one row to another within a column.
 #[derive(Clone, Copy)]
 struct Handover {
     giver: usize,
@@ -101,7 +102,7 @@ struct Handover {
     column: usize,
 }
 
-/// A cell gets one seat more.
+/// Adds a seat to a cell.
 fn give(bounds: &CellBounds<'_>, seats: &mut [u32], row: usize, column: usize)
     requires seats { length seats.old ≡ bounds.now.question.now.rows * bounds.now.question.now.columns }
     requires row { row < bounds.now.question.now.rows }
@@ -115,7 +116,7 @@ fn give(bounds: &CellBounds<'_>, seats: &mut [u32], row: usize, column: usize)
     seats[place] += 1;
 }
 
-/// A cell gives up a seat.
+/// Removes a seat from a cell.
 pub(crate) fn take(bounds: &CellBounds<'_>, seats: &mut [u32], row: usize, column: usize)
     requires seats { length seats.old ≡ bounds.now.question.now.rows * bounds.now.question.now.columns }
     requires row { row < bounds.now.question.now.rows }
@@ -126,7 +127,7 @@ pub(crate) fn take(bounds: &CellBounds<'_>, seats: &mut [u32], row: usize, colum
     seats[row * bounds.question.columns + column] -= 1;
 }
 
-/// A row that lacks a seat gets one in a column that lacks one.
+/// Places a seat in a row and a column that are both short of one.
 pub(crate) fn place(bounds: &CellBounds<'_>, seats: &mut [u32], row: usize, column: usize)
     requires placed { words.ArePlaced (asked_in bounds.now) (bounds_of bounds.now) seats.old }
     requires row { row < bounds.now.question.now.rows }
@@ -140,7 +141,7 @@ pub(crate) fn place(bounds: &CellBounds<'_>, seats: &mut [u32], row: usize, colu
     give(bounds, seats, row, column);
 }
 
-/// A row that lacks a seat gets one in a column from another row, which lacks one then.
+/// Moves a seat within a column, to a row that is short of one. Then the row that gave it is short of one.
 fn pass(bounds: &CellBounds<'_>, seats: &mut [u32], seat: Handover)
     requires placed { words.ArePlaced (asked_in bounds.now) (bounds_of bounds.now) seats.old }
     requires giver { seat.giver < bounds.now.question.now.rows }
@@ -158,7 +159,8 @@ fn pass(bounds: &CellBounds<'_>, seats: &mut [u32], seat: Handover)
     take(bounds, seats, seat.giver, seat.column);
 }
 
-/// Passes seats on along the ways from a row that lacks one, up to a column that lacks one.
+/// Augments along the ways: moves seats from row to row, starting at a row that is short of one, up to a column that is short
+/// of one.
 pub(crate) fn turn(bounds: &CellBounds<'_>, seats: &mut [u32], ways: &[Option<Way>], first: usize)
     requires placed { words.ArePlaced (asked_in bounds.now) (bounds_of bounds.now) seats.old }
     requires table { length ways.now ≡ 32 }

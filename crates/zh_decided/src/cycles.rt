@@ -1,4 +1,4 @@
-//! Cycles of cells in which seats can be passed on. They are found on the trail of a sweep, and turned until the matrix is a
+//! Cycles of cells along which seats can move. They are read from the trail of a sweep and cancelled, until the matrix is a
 //! least-cost flow (cycle cancelling).
 ghost use Rattle.std.specs.Prelude.{◌≡◌, ◌≢◌, ℕ, ◌+◌, ◌-◌, ◌<◌, ◌≤◌, IfNone, IfSome, ◌*◌, length};
 ghost use Rattle.zh_decided.specs.Prices.{AreLogs, Logs, cells, cost, priced};
@@ -14,10 +14,10 @@ use crate::sweep_bounds::Bounds;
 use crate::sweeps::{Potentials, Swept, sweep};
 use zh_matrices::Question;
 
-/// The levels of a sweep: one more than there may be columns.
+/// The greatest number of levels of a sweep: one more than the greatest number of columns.
 pub(crate) const LEVELS: usize = 33;
 
-/// A row gives up a seat in a column to another row.
+/// A seat in a column moves from the row `giver` to the row `taker`.
 #[derive(Clone, Copy)]
 pub struct Transfer {
     pub giver: usize,
@@ -25,15 +25,16 @@ pub struct Transfer {
     pub taker: usize,
 }
 
-/// So many steps, each from the row that gets a seat by the next one, and the last from the row that gets one by the first.
+/// The first `length` steps. The giver of each step is the taker of the next one, and the giver of the last step the taker of
+/// the first.
 #[derive(Clone, Copy)]
 pub struct Cycle {
     pub(crate) steps: [Transfer; LEVELS],
     pub(crate) length: usize,
 }
 
-/// Steps back from the last level, one a level: the giver made the column, which made the taker. `source` is the column that
-/// made the last giver.
+/// Steps back from the last level, one per level: the giver lowered the column, and the column lowered the taker. `source` is
+/// the column that lowered the last giver.
 #[derive(Clone, Copy)]
 pub(crate) struct Trail {
     pub steps: [Transfer; LEVELS],
@@ -42,7 +43,7 @@ pub(crate) struct Trail {
 }
 
 impl Trail {
-    /// A trail of one step, whose taker is not known.
+    /// A trail of one step, whose taker is not known yet.
     pub(crate) fn new(giver: usize, column: usize, source: Option<usize>) -> Self
         ensures length { result.length ≡ 1 }
         ensures giver { (step_at result.steps 0).giver ≡ giver }
@@ -61,7 +62,7 @@ impl Trail {
         }
     }
 
-    /// Where the trail comes through a column.
+    /// The place of the first step in this column, if there is one.
     pub(crate) fn position(&self, column: usize) -> Option<usize>
         requires { self.now.length ≤ 33 }
         ensures here { IfSome result (λ k. k < self.now.length) }
@@ -76,7 +77,7 @@ impl Trail {
         None
     }
 
-    /// The row whose source is open.
+    /// The giver of the last step.
     fn last_giver(&self) -> usize
         requires some { 1 ≤ self.now.length }
         requires few { self.now.length ≤ 33 }
@@ -85,7 +86,7 @@ impl Trail {
         self.steps[self.length - 1].giver
     }
 
-    /// A step further back.
+    /// The trail with one more step, a level further back.
     pub(crate) fn and(mut self, giver: usize, column: usize, source: Option<usize>) -> Self
         requires some { 1 ≤ self.length }
         requires few { self.length ≤ 32 }
@@ -109,7 +110,7 @@ impl Trail {
         self
     }
 
-    /// The steps from a place on, closed to a circle.
+    /// The steps from a place on, closed into a cycle.
     pub(crate) fn circle_from(&self, first: usize) -> Cycle
         requires few { self.now.length ≤ 33 }
         requires first { first < self.now.length }
@@ -131,7 +132,7 @@ impl Trail {
     }
 }
 
-/// A row passes on a seat.
+/// Moves the seat of one step.
 fn pass(question: &Question<'_>, seats: &mut [u32], step: Transfer)
     requires seats { length seats.old ≡ question.now.rows * question.now.columns }
     requires giver { step.giver < question.now.rows }
@@ -145,7 +146,7 @@ fn pass(question: &Question<'_>, seats: &mut [u32], step: Transfer)
     seats[step.taker * question.columns + step.column] += 1;
 }
 
-/// Each step of a cycle passes on its seat. The totals stay.
+/// Cancels a cycle: moves a seat along each of its steps. The totals of rows and columns stay the same.
 pub fn turn_cycle(question: &Question<'_>, seats: &mut [u32], cycle: &Cycle)
     requires totals { AreSeatTotals question.now.rows question.now.row_totals.now }
     requires fits { FitsVotes (asked question.now) seats.old }
@@ -163,7 +164,7 @@ pub fn turn_cycle(question: &Question<'_>, seats: &mut [u32], cycle: &Cycle)
     }
 }
 
-/// Turns cycles until the matrix is cheapest, with potentials that show it.
+/// Cancels cycles until the cost of the matrix is least. Returns potentials that show it.
 pub fn make_cheapest<'x>(
     question: &'x Question<'x>,
     logarithms: &'x LogTable<'x>,

@@ -1,4 +1,5 @@
-//! The decision: a matrix with the totals, made cheapest as a least-cost flow, and the divisors that its potentials give.
+//! The decision: it finds a matrix with the totals, makes it a least-cost flow, and takes the divisors from the flow's
+//! potentials.
 ghost use Rattle.std.specs.Prelude.{◌≡◌, IfOk, length, ◌*◌, ◌≤◌, ◌↔◌, IfSome};
 ghost use Rattle.zh_decided.specs.Boxes.{NoneGiven};
 ghost use Rattle.zh_decided.specs.Decisions.{Decides, GivesOrBeyond, LeavesNone, SaysImpossible};
@@ -27,25 +28,28 @@ use crate::sweeps::{Gap, Potentials, Swept, close_gap, sweep};
 use std::alloc::{AllocError, Global};
 use zh_matrices::Question;
 
-/// What there is for a question.
+/// What was decided for a question.
 #[derive(Drop)]
 pub enum Decision {
-    /// The votes of these rows lie in columns that have fewer seats than they: no matrix on the votes has the totals.
+    /// No matrix on the votes has the totals: the votes of these rows lie in columns that together have fewer seats than these
+    /// rows.
     Impossible(MarkedRows),
-    /// Divisors in millionths give the seats, strictly.
+    /// Divisors in millionths give the seats, with no quotient on a half.
     Seats,
-    /// Two different matrices follow nearly from these divisors; they differ first in this row and this column, both counted
-    /// from 1.
+    /// A near tie: two different matrices nearly follow from these divisors. The first cell in which they differ is in this row
+    /// and this column, both counted from 1.
     NearlyTied(u32, u32, FloatingDivisors),
-    /// The seats follow strictly from these divisors, and none in millionths that leave the limits some room give any.
+    /// The seats follow strictly from these divisors. No divisors in millionths give any seats, if those of rows are from 1.05
+    /// to 999,900,000,000 and those of columns from 1.05 to 999,900.
     Beyond(FloatingDivisors),
 }
 
-/// The odd numbers that have a logarithm in the tables: 1 to 801.
+/// How many odd numbers have a logarithm in the tables: those from 1 to 801.
 pub(crate) const ODDS: usize = 401;
 
-/// What a decision is about: the seats of each cell, row by row; the divisors in millionths that give them; and the other matrix
-/// of a near tie.
+/// What a decision found: the seats of each cell, row by row; the divisors in millionths that give them; and the other matrix
+/// of a near tie. The seats are valid after every decision but `Impossible`, the divisors after `Seats`, the other matrix after
+/// `NearlyTied`.
 #[derive(Drop)]
 pub struct Findings {
     pub seats: Vec<u32>,
@@ -54,7 +58,7 @@ pub struct Findings {
     pub others: Vec<u32>,
 }
 
-/// Room for a decision, which leaves there what it is about.
+/// Room for a decision, which leaves its findings there.
 #[derive(Drop)]
 pub struct DecisionRoom {
     pub findings: Findings,
@@ -62,7 +66,7 @@ pub struct DecisionRoom {
     pub(crate) odd_logarithms: Vec<u64>,
 }
 
-/// So many zeros.
+/// A vector of `count` zeros.
 fn zeros(alloc: Global, count: usize) -> Result<Vec<u64>, AllocError>
     ensures { IfOk result (λ zeros. length zeros.items ≡ count) }
 {
@@ -73,7 +77,7 @@ impl DecisionRoom {
     ghost use Rattle.std.specs.Prelude.{◌≤◌};
     ghost use Rattle.zh_decided.specs.Rooms.{IsDecisionRoom};
 
-    /// Room for votes in so many rows and columns.
+    /// Room for a question with this many rows and columns, at most 32 each. Fails if memory is refused.
     pub fn new(alloc: Global, rows: usize, columns: usize) -> Result<Self, AllocError>
         requires few_rows { rows ≤ 32 }
         requires few_columns { columns ≤ 32 }
@@ -92,14 +96,16 @@ impl DecisionRoom {
     }
 }
 
-/// What each next seat is to be too dear by, and each last one too cheap, for a matrix to be the only one: what rounding numbers
-/// from 2^20 on costs, and what logarithms do.
+/// The slacks of a decision: each next seat must be too expensive by `GIVEN`, and each last seat cheap enough by `TAKEN`. They
+/// cover the rounding of divisors from 2^20 millionths on (4,096 units) and the errors of the logarithms (6 units). A matrix
+/// that is a least-cost flow with these slacks is the only one.
 const GIVEN: u64 = 4_102;
 
 const TAKEN: u64 = 6;
 
-/// Seats that stand still at these slacks are the only ones: either divisors in millionths give them, which are left behind, or
-/// none in their ranges do.
+/// The sweep with these slacks ended at these potentials, so the seats are the only ones. Either divisors in millionths give
+/// them and are written to `of_rows` and `of_columns`, or no divisors in the ranges of `Beyond` do, and floating-point divisors
+/// are returned.
 fn only_seats(
     priced: &PricedSeats<'_>,
     potentials: &Potentials,
@@ -121,7 +127,9 @@ fn only_seats(
     Some(floating_divisors(priced.question, potentials))
 }
 
-/// A matrix that does not stand still at these slacks is nearly tied with another one, which is left behind.
+/// The sweep with these slacks ended in a cycle, so the matrix is nearly tied with another one, which is written to `others`.
+/// Returns the row and the column of the first cell in which they differ, both counted from 1, and divisors from which both
+/// nearly follow.
 fn near_tie(priced: &PricedSeats<'_>, gap: Gap, others: &mut [u32]) -> (u32, u32, FloatingDivisors)
     requires totals { AreSeatTotals priced.now.question.now.rows priced.now.question.now.row_totals.now }
     requires tables { AreLogTables (asked priced.now.question.now) (logs priced.now.logarithms.now) }
@@ -145,8 +153,8 @@ fn near_tie(priced: &PricedSeats<'_>, gap: Gap, others: &mut [u32]) -> (u32, u32
     )
 }
 
-/// Decides with tables of logarithms, where the seats found are a matrix on the votes with the totals. They become those that the
-/// decision is about.
+/// Decides with tables of logarithms. `findings` must contain a matrix on the votes with the totals; the seats of the decision
+/// replace it.
 fn decide_by<'x>(
     question: &'x Question<'x>,
     logarithms: &'x LogTable<'x>,
@@ -189,9 +197,9 @@ fn decide_by<'x>(
     }
 }
 
-/// Decides what there is. Rows and columns are to get as many seats.
+/// Decides a question. Its row totals and its column totals must have the same sum.
 ///
-/// `Impossible` is returned exactly where no matrix on the votes has the totals. What the other decisions are about is left in
+/// `Impossible` is returned if and only if no matrix on the votes has the totals. The other decisions leave their findings in
 /// the room.
 pub fn decide(question: &Question<'_>, room: &mut DecisionRoom) -> Decision
     requires totals { AreSeatTotals question.now.rows question.now.row_totals.now }

@@ -1,4 +1,4 @@
-//! Where two matrices differ, and whether two within the same bounds do, by augmenting paths.
+//! Where two matrices differ, and a search by augmenting paths for a different matrix within the same bounds.
 ghost use Rattle.std.specs.Bool.{OnFalse, OnTrue};
 ghost use Rattle.std.specs.Prelude.{◌≡◌, ℕ, ◌*◌, IfNone, IfSome, length, slice_index, List, ◌<◌, ◌≤◌, ◌+◌};
 ghost use Rattle.zh_decided.specs.Bounds.{IsAnotherAt, IsFixedAt, IsWithin, asked_in, bounds_of};
@@ -12,7 +12,7 @@ use crate::cells::{CELLS, CellBounds, copy_cells, no_seats};
 use crate::completion::{complete, place, take};
 use zh_matrices::Question;
 
-/// The first place in which they differ.
+/// The first place in which two lists differ.
 fn first_place(seats: &[u32], others: &[u32]) -> Option<usize>
     requires { length seats.now ≡ length others.now }
     ensures first { IfSome result (IsFirstPlaceApart seats.now others.now) }
@@ -26,7 +26,7 @@ fn first_place(seats: &[u32], others: &[u32]) -> Option<usize>
     None
 }
 
-/// Its row and column, both counted from 1.
+/// The row and the column of the first cell in which two matrices differ, both counted from 1.
 pub(crate) fn first_difference(
     question: &Question<'_>,
     seats: &[u32],
@@ -46,7 +46,7 @@ pub(crate) fn first_difference(
     }
 }
 
-/// Leaves in `others` a matrix within the bounds with fewer seats in a place; false where there is none.
+/// Writes to `others` a matrix within the bounds that has fewer seats in a place. False if there is none.
 fn fewer_at(bounds: &CellBounds<'_>, seats: &[u32], place: usize, others: &mut [u32]) -> bool
     requires within { IsWithin (asked_in bounds.now) (bounds_of bounds.now) seats.now }
     requires place { place < bounds.now.question.now.rows * bounds.now.question.now.columns }
@@ -71,7 +71,7 @@ fn fewer_at(bounds: &CellBounds<'_>, seats: &[u32], place: usize, others: &mut [
     complete(&lowered, others).is_ok()
 }
 
-/// Leaves in `others` a matrix within the bounds with more seats in a place; false where there is none.
+/// Writes to `others` a matrix within the bounds that has more seats in a place. False if there is none.
 fn more_at(bounds: &CellBounds<'_>, seats: &[u32], place: usize, others: &mut [u32]) -> bool
     requires within { IsWithin (asked_in bounds.now) (bounds_of bounds.now) seats.now }
     requires place { place < bounds.now.question.now.rows * bounds.now.question.now.columns }
@@ -100,7 +100,8 @@ fn more_at(bounds: &CellBounds<'_>, seats: &[u32], place: usize, others: &mut [u
     complete(&raised, others).is_ok()
 }
 
-/// Leaves in `others` a matrix within the bounds with other seats in a place; false where all have the same there.
+/// Writes to `others` a matrix within the bounds that has a different number of seats in a place. False if all have the same
+/// number there.
 pub fn differ_at(bounds: &CellBounds<'_>, seats: &[u32], place: usize, others: &mut [u32]) -> bool
     requires within { IsWithin (asked_in bounds.now) (bounds_of bounds.now) seats.now }
     requires place { place < bounds.now.question.now.rows * bounds.now.question.now.columns }
@@ -143,8 +144,8 @@ fn other_row(bounds: &CellBounds<'_>, seats: &[u32], row: usize, column: usize) 
     None
 }
 
-/// A cell of a matrix within the bounds gets a seat more, for one less elsewhere in its row and in its column; false where these
-/// have none to give up, so that no matrix within the bounds has more seats in the cell.
+/// Adds a seat to a cell of a matrix within the bounds and removes one elsewhere in its row and one elsewhere in its column.
+/// False if one of the two has no seat to give up. Then no matrix within the bounds has more seats in the cell.
 pub(crate) fn raise(bounds: &CellBounds<'_>, seats: &mut [u32], row: usize, column: usize) -> bool
     requires within { IsWithin (asked_in bounds.now) (bounds_of bounds.now) seats.old }
     requires row { row < bounds.now.question.now.rows }

@@ -1,4 +1,4 @@
-//! Floating divisors from potentials.
+//! Floating-point divisors from potentials.
 ghost use Rattle.std.specs.Prelude.{◌+◌, ◌*◌, ◌^◌, ◌≤◌, ℕ, ◌-◌, ◌<◌, slice_index};
 ghost use Rattle.zh_decided.specs.Floated.{AreColumnFloats, AreRowFloats, Fit};
 ghost use Rattle.zh_decided.specs.Sizes.{HaveShortMantissas};
@@ -21,7 +21,7 @@ impl Floating {
     ghost use Rattle.zh_decided.specs.Floats.{value_of};
     ghost use Rattle.zh_decided.specs.Logarithms.{IsLog, log_unit};
 
-    /// The number with this logarithm, times 2^31, and rounded down to a mantissa of 32 bits.
+    /// The number with this logarithm, times 2^31, rounded down to a mantissa of at most 2^32.
     pub fn from_logarithm(logarithm: u64) -> Self
         ensures log { IsLog 1 2 (value_of result) (31 * log_unit + logarithm) }
         ensures mantissa { result.mantissa ≤ 2 ^ 32 }
@@ -35,16 +35,16 @@ impl Floating {
     }
 }
 
-/// A divisor for each row and each column.
+/// A divisor for each row and each column, in units of 2^-32799.
 #[derive(Clone, Copy)]
 pub struct FloatingDivisors {
     pub of_rows: [Floating; LINES],
     pub of_columns: [Floating; LINES],
 }
 
-/// What potentials of rows are below.
+/// The base of the potentials of rows: such a potential is this less the logarithm of the row's divisor.
 const BASE: u64 = 1 << 60;
-/// The logarithm of 2^32768, by which divisors are larger than they are to be: no scale is so small.
+/// The logarithm of 2^32768. Divisors are scaled up by this number, so that no logarithm is negative.
 const LIFT: u64 = 1 << 45;
 
 const NONE: Floating = Floating {
@@ -52,7 +52,7 @@ const NONE: Floating = Floating {
     exponent: 0,
 };
 
-/// The divisors of rows.
+/// The divisors of the rows.
 fn of_rows(question: &Question<'_>, potentials: &[u64; LINES]) -> [Floating; LINES]
     requires { (d : ℕ) → d < question.now.rows → slice_index potentials.now d ≤ 2 ^ 60 + 2 ^ 45 }
     ensures logs { AreRowFloats question.now.rows potentials.now result }
@@ -65,7 +65,7 @@ fn of_rows(question: &Question<'_>, potentials: &[u64; LINES]) -> [Floating; LIN
     divisors
 }
 
-/// The divisors of columns.
+/// The divisors of the columns.
 fn of_columns(question: &Question<'_>, potentials: &[u64; LINES]) -> [Floating; LINES]
     requires { (g : ℕ) → g < question.now.columns → slice_index potentials.now g ≤ 2 ^ 44 }
     ensures logs { AreColumnFloats question.now.columns potentials.now result }
@@ -78,7 +78,7 @@ fn of_columns(question: &Question<'_>, potentials: &[u64; LINES]) -> [Floating; 
     divisors
 }
 
-/// The divisors that potentials stand for.
+/// The divisors of these potentials, in units of 2^-32799.
 pub(crate) fn floating_divisors(
     question: &Question<'_>,
     potentials: &Potentials,

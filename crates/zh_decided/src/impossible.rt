@@ -1,4 +1,4 @@
-//! Whether a matrix on the votes has the totals. Where the greatest flow falls short of them, the rows of a least cut show it
+//! Whether a matrix on the votes has the totals. If the maximum flow falls short of them, the rows of a minimum cut show why
 //! (max-flow min-cut).
 ghost use Rattle.std.specs.Prelude.{◌≡◌, ◌-◌, ◌≤◌, ℕ, ◌*◌, IfErr, OnOk, length, slice_index};
 ghost use Rattle.zh_decided.specs.Impossible.{is_among, HasTooFewSeats};
@@ -12,7 +12,7 @@ use crate::completion::{complete, fill_cells};
 use std::marker::Model;
 use zh_matrices::Question;
 
-/// Some of at most 32 rows.
+/// A set of rows, out of at most 32.
 #[derive(Drop)]
 pub struct MarkedRows {
     marks: [bool; 32],
@@ -33,7 +33,7 @@ impl MarkedRows {
         MarkedRows { marks }
     }
 
-    /// Whether a row, counted from 1, is among them.
+    /// Whether the set contains this row, 1 to 32.
     pub fn contains(&self, row: u32) -> bool
         requires from_1 { 1 ≤ row }
         requires at_most_32 { row ≤ 32 }
@@ -43,10 +43,10 @@ impl MarkedRows {
     }
 }
 
-/// More seats than a row may get.
+/// An upper bound that no cell reaches: a row gets at most 400 seats.
 const UNBOUNDED: u32 = 401;
 
-/// All cells become 0.
+/// Sets all cells to 0.
 fn clear(cells: &mut [u32])
     ensures { (k : ℕ) → slice_index cells.new k ≡ 0 }
 {
@@ -55,7 +55,7 @@ fn clear(cells: &mut [u32])
     }
 }
 
-/// No seats without votes, and any number with votes.
+/// Sets the upper bound of each cell: 0 without votes, and more than a row can get with votes.
 fn bound_by_votes(question: &Question<'_>, most: &mut [u32])
     requires { question.now.rows * question.now.columns ≤ length most.old }
     ensures { words.AreBoundByVotes (asked question.now) most.new }
@@ -69,8 +69,8 @@ fn bound_by_votes(question: &Question<'_>, most: &mut [u32])
     }
 }
 
-/// Leaves a matrix on the votes with the totals in `seats`; or, where there is none, rows whose votes lie in columns
-/// that have fewer seats than they are returned. Rows and columns are to get as many seats.
+/// Writes a matrix on the votes with the totals to `seats`. If there is none, returns rows whose votes lie in columns that
+/// together have fewer seats than these rows. The row totals and the column totals must have the same sum.
 pub fn place_all(question: &Question<'_>, seats: &mut [u32]) -> Result<(), MarkedRows>
     requires totals { AreSeatTotals question.now.rows question.now.row_totals.now }
     requires balanced { words.AreBalanced (asked question.now) }

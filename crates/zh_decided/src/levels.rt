@@ -1,4 +1,4 @@
-//! The levels of a sweep, one after the other: each is a round of Bellman-Ford, of the rows and then of the columns.
+//! The levels of a sweep. Each level is one round of Bellman-Ford: first the rows, then the columns.
 ghost use Rattle.std.specs.Prelude.{◌≡◌, ℕ, ◌<◌, ◌≤◌, IfNone, IfSome, None, Some, slice_index, ◌^◌};
 ghost use Rattle.zh_decided.specs.Taken.{priced_in};
 ghost use Rattle.zh_decided.specs.Levels as words;
@@ -9,7 +9,7 @@ use crate::sweep_bounds::Bounds;
 use crate::sweeps::Potentials;
 use zh_matrices::{LINES, Question};
 
-/// The end of a sweep, or a column that falls even at its last level.
+/// How a sweep ends, or the trail of a column that still falls at the last level.
 #[derive(Clone, Copy)]
 pub(crate) enum Descent {
     Still(Potentials),
@@ -18,7 +18,7 @@ pub(crate) enum Descent {
     Falls(Trail),
 }
 
-/// The first column that fell, and the row that made it.
+/// The first column that fell, and the row that lowered it.
 fn first_fallen(question: &Question<'_>, columns: &[Mark; LINES]) -> Option<(usize, usize)>
     ensures column { IfSome result (λ fallen. fallen.0 < question.now.columns) }
     ensures maker { IfSome result (λ fallen. (words.mark_at columns.now fallen.0).maker ≡ Some fallen.1) }
@@ -32,7 +32,7 @@ fn first_fallen(question: &Question<'_>, columns: &[Mark; LINES]) -> Option<(usi
     None
 }
 
-/// The potentials alone.
+/// The potentials of these marks.
 fn potentials(marks: &[Mark; LINES]) -> [u64; LINES]
     ensures { (i : ℕ) → i < 32 → slice_index result i ≡ words.potential_at marks.now i }
 {
@@ -43,7 +43,7 @@ fn potentials(marks: &[Mark; LINES]) -> [u64; LINES]
     potentials
 }
 
-/// Goes on from these columns, with so many levels after this one.
+/// Continues a sweep from these columns: this level, and up to `levels` more.
 pub(crate) fn descend(
     priced: &PricedSeats<'_>,
     bounds: Bounds,
@@ -87,7 +87,7 @@ pub(crate) fn descend(
     }
 }
 
-/// The rows over these columns, unless one of them comes below its floor.
+/// The marks of the rows that follow from these columns. None if a row falls below its floor.
 pub(crate) fn row_marks(
     priced: &PricedSeats<'_>,
     bounds: Bounds,
@@ -111,7 +111,8 @@ pub(crate) fn row_marks(
     Some(rows)
 }
 
-/// The columns over these rows, none above what it was, unless one comes below its floor.
+/// The marks of the columns that follow from these rows, none above its potential `before`. None if a column falls below its
+/// floor.
 pub(crate) fn column_marks(
     priced: &PricedSeats<'_>,
     bounds: Bounds,

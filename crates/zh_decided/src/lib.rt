@@ -1,5 +1,5 @@
-//! What there is for votes with the seats that rows and columns are to get: none that fit them, divisors of a sheet that give
-//! seats, a near tie, or seats that are beyond the divisors of a sheet. One of them is found for every question within the limits.
+//! The decision on votes and the seats that rows and columns are to get: no seats fit, divisors of a sheet give seats, there is
+//! a near tie, or the seats are beyond the divisors of a sheet. One of these is found for every question within the limits.
 #![tactic(auto)]
 
 mod boxes;

@@ -1,14 +1,14 @@
-//! Logarithms bit by bit, their tables, and numbers from them.
+//! Logarithms, computed bit by bit; tables of them; and numbers from logarithms.
 ghost use Rattle.std.specs.Prelude.{◌^◌, ◌<◌, ◌≤◌, ◌+◌, ◌-◌, ◌*◌, ◌≡◌, length};
 ghost use Rattle.zh_decided.specs.Logarithms.{HasLogarithm, IsCutSquare, IsLog, IsAntilogarithm, log_unit, power};
 ghost use Rattle.zh_decided.specs.Tables.{AreOddLogs, AreVoteLogs};
 
 use zh_matrices::Question;
 
-/// The binary places of a logarithm.
+/// The number of binary places of a logarithm.
 const PLACES: u32 = 30;
 
-/// The square of a mantissa, cut to 64 bits, and whether one bit more was cut off.
+/// The square of a mantissa, truncated to 64 bits, and whether 64 bits were cut off instead of 63.
 fn cut_square(mantissa: u64) -> (u64, bool)
     requires { 2 ^ 63 ≤ mantissa }
     ensures { IsCutSquare mantissa result.0 result.1 }
@@ -21,7 +21,7 @@ fn cut_square(mantissa: u64) -> (u64, bool)
     }
 }
 
-/// The logarithm to base 2 of a number from 1 on, in units of 2^-30, rounded down, or one unit less.
+/// The logarithm to base 2 of a number from 1 on, in units of 2^-30. It is rounded down, or one unit less than that.
 pub fn logarithm(number: u64) -> u64
     requires { 1 ≤ number }
     ensures log { IsLog 0 2 number result }
@@ -39,7 +39,7 @@ pub fn logarithm(number: u64) -> u64
     logarithm
 }
 
-/// The number from 2^`bits` to the most whose logarithm this is, rounded down.
+/// The greatest number from 2^bits to `most` whose logarithm is at most this one. It is found by bisection.
 pub fn antilogarithm(logarithm_of_it: u64, bits: u32, most: u64) -> u64
     requires from_2 { 1 ≤ bits }
     requires to_31 { bits ≤ 31 }
@@ -65,7 +65,7 @@ pub fn antilogarithm(logarithm_of_it: u64, bits: u32, most: u64) -> u64
     low
 }
 
-/// Takes the logarithms of twice the votes of each cell; 0 where there are none.
+/// Writes the logarithm of twice the votes of each cell to `into`; 0 for a cell without votes.
 pub(crate) fn take_vote_logarithms(question: &Question<'_>, into: &mut [u64])
     requires { length into.old ≡ length question.now.votes.now }
     ensures { AreVoteLogs question.now.votes.now into.new }
@@ -78,7 +78,7 @@ pub(crate) fn take_vote_logarithms(question: &Question<'_>, into: &mut [u64])
     }
 }
 
-/// Takes those of 1, 3, 5 ..
+/// Writes the logarithms of the odd numbers from 1 on to `into`.
 pub(crate) fn take_odd_logarithms(into: &mut [u64])
     requires { length into.old ≤ 401 }
     ensures logs { AreOddLogs into.new }

@@ -1,21 +1,22 @@
-//! Prices of seats, the costs of the least-cost flow, and the potentials that they leave to a line.
+//! Prices of seats, which are the costs of the least-cost flow, and the potentials that they allow a row or a column.
 ghost use Rattle.std.specs.Prelude.{◌≡◌, ◌*◌, ◌≤◌, All, length};
 ghost use Rattle.zh_decided.specs.Prices.{AreLogs};
 
 use crate::sweep_bounds::Bounds;
 use zh_matrices::{LINES, Question};
 
-/// The potential of a line, and the crossing line that made it so low, if one did.
+/// The potential of a row or column, and the crossing line that lowered it to this value, if one did.
 #[derive(Clone, Copy)]
 pub(crate) struct Mark {
     pub potential: u64,
     pub maker: Option<usize>,
 }
 
-/// The price of a seat under the divisor 1: above 0 whatever the votes.
+/// What is added to each price, so that it is above 0 whatever the votes.
 const BASE: u64 = 1 << 60;
 
-/// Logarithms to any base and in any unit, up to 2^36: of twice the votes of each cell, row by row, and of 1, 3, 5 .. 801.
+/// Logarithms, to any base and in any unit, each at most 2^36: of twice the votes of each cell, row by row, and of the odd
+/// numbers from 1 to 801.
 #[derive(Drop)]
 pub struct LogTable<'a> {
     pub of_votes: &'a [u64],
@@ -28,7 +29,7 @@ impl<'a> LogTable<'a> {
     ghost use Rattle.zh_decided.specs.Prices.{seat_price};
     ghost use Rattle.zh_decided.specs.Taken.{logs};
 
-    /// The price of a seat of a cell, where seats are counted from 0.
+    /// The price of a seat of the cell in this place. Its seats are numbered from 0.
     pub(crate) fn seat_price(&self, place: usize, seat: u32) -> u64
         requires place { place < length self.now.of_votes.now }
         requires seat { seat ≤ 400 }
@@ -40,7 +41,7 @@ impl<'a> LogTable<'a> {
     }
 }
 
-/// Seats with their prices: a number of seats for each cell of a question, row by row and at most 400 each.
+/// Seats with their prices. `seats` has the number of seats of each cell of the question, row by row, at most 400 each.
 #[derive(Drop)]
 pub struct PricedSeats<'a> {
     pub question: &'a Question<'a>,
@@ -56,7 +57,7 @@ impl<'a> PricedSeats<'a> {
     ghost use Rattle.zh_decided.specs.Levels as words;
     ghost use Rattle.zh_decided.specs.Taken.{priced_in};
 
-    /// The greatest potential that a row may have over these columns.
+    /// The greatest potential that the cap and these columns allow a row.
     pub(crate) fn row_mark(&self, bounds: Bounds, columns: &[Mark; LINES], row: usize) -> Mark
         requires columns { (g : ℕ) → g < self.now.question.now.columns → words.potential_at columns.now g ≤ 2 ^ 44 }
         requires row { row < self.now.question.now.rows }
@@ -83,7 +84,7 @@ impl<'a> PricedSeats<'a> {
         mark
     }
 
-    /// The greatest potential that a column may have over these rows, and at most this one.
+    /// The greatest potential, at most `before`, that these rows allow a column.
     pub(crate) fn column_mark(
         &self,
         bounds: Bounds,

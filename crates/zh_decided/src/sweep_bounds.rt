@@ -1,17 +1,17 @@
-//! What a sweep keeps to: the slacks of its prices, and the caps and floors of its potentials.
+//! The bounds of a sweep: the slacks of its prices, and the caps and floors of its potentials.
 ghost use Rattle.std.specs.Prelude.{◌^◌, ◌≤◌};
 
-/// The bounds of a sweep. Potentials are in units of the logarithms: a row's is 2^60 less the logarithm of its divisor, a
-/// column's the logarithm of its own.
+/// The bounds of a sweep. Potentials are in the unit of the logarithms: that of a row is 2^60 less the logarithm of its
+/// divisor, that of a column is the logarithm of its divisor.
 #[derive(Clone, Copy)]
 pub struct Bounds {
-    /// By how much each next seat has to be too dear, and each last seat too cheap.
+    /// The slacks: each next seat must be too expensive by `given`, and each last seat cheap enough by `taken`.
     pub given: u64,
     pub taken: u64,
-    /// The most that a row and a column may have.
+    /// The greatest potential that a row and a column may have.
     pub row_cap: u64,
     pub column_cap: u64,
-    /// The least.
+    /// The least potential that they may have.
     pub row_floor: u64,
     pub column_floor: u64,
     ghost given_small: { given ≤ 2 ^ 36 },
@@ -24,7 +24,7 @@ impl Bounds {
     ghost use Rattle.std.specs.Prelude.{◌≡◌};
     ghost use Rattle.zh_decided.specs.Sweeps.{AreFree};
 
-    /// Bounds that no sweep leaves, with these slacks.
+    /// Bounds with these slacks, at most 2^36 each. They are so wide that no sweep leaves them.
     pub fn free(given: u64, taken: u64) -> Self
         requires given { given ≤ 2 ^ 36 }
         requires taken { taken ≤ 2 ^ 36 }

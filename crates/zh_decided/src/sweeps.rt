@@ -1,5 +1,5 @@
-//! Sweeps, after Bellman-Ford: potentials are lowered until they stand still, or a cycle of seats would cost less. And the slack
-//! up to which they stand still.
+//! Sweeps (Bellman-Ford): potentials are lowered until they no longer change, or until a cycle is found along which seats would
+//! cost less. And a bisection for the greatest slack with which they stop changing.
 ghost use Rattle.std.specs.Prelude.{◌≡◌, ℕ, ◌<◌, ◌+◌, ◌-◌, ◌≤◌};
 ghost use Rattle.zh_decided.specs.Gaps.{IsGap};
 ghost use Rattle.zh_decided.specs.Levels.{potential_at};
@@ -22,15 +22,15 @@ pub struct Potentials {
 /// How a sweep ends.
 #[derive(Clone, Copy)]
 pub enum Swept {
-    /// The greatest potentials within the bounds.
+    /// The potentials no longer change: they are the greatest within the bounds.
     Still(Potentials),
-    /// Seats that can be passed on, and cost less then but for the slacks.
+    /// Seats can move along this cycle. They then cost less than before plus the slacks.
     Cycle(Cycle),
-    /// A line came below its floor.
+    /// A row or a column fell below its floor.
     Out,
 }
 
-/// A table of lines at this potential.
+/// Marks that all have this potential.
 fn marks_at(potential: u64) -> [Mark; LINES]
     ensures { (g : ℕ) → g < 32 → potential_at result g ≡ potential }
 {
@@ -40,7 +40,8 @@ fn marks_at(potential: u64) -> [Mark; LINES]
     }; LINES]
 }
 
-/// Lowers rows and columns from their caps until they stand still.
+/// Lowers the potentials of rows and columns from their caps until they no longer change, a cycle is found, or one falls below
+/// its floor.
 pub fn sweep(priced: &PricedSeats<'_>, bounds: Bounds) -> Swept
     ensures { EndsSweep (priced_in priced.now) bounds result }
 {
@@ -53,8 +54,8 @@ pub fn sweep(priced: &PricedSeats<'_>, bounds: Bounds) -> Swept
     }
 }
 
-/// Slacks of next seats, up to 2^36: at one the seats stand still with these potentials, and at a larger one there is this
-/// cycle.
+/// Two slacks of next seats, at most 2^36. With `still_at` the sweep ends at these potentials; with `cycle_at`, which is
+/// larger, it finds this cycle.
 #[derive(Clone, Copy)]
 pub struct Gap {
     pub still_at: u64,
@@ -63,7 +64,7 @@ pub struct Gap {
     pub cycle: Cycle,
 }
 
-/// One half of a gap.
+/// One step of the bisection: the half of a gap that is a gap again.
 fn halve(priced: &PricedSeats<'_>, gap: Gap) -> Gap
     requires gap { IsGap (priced_in priced.now) gap }
     requires wide { gap.still_at + 1 < gap.cycle_at }
@@ -89,7 +90,7 @@ fn halve(priced: &PricedSeats<'_>, gap: Gap) -> Gap
     }
 }
 
-/// Narrows a gap to one unit.
+/// Narrows a gap to one unit, by bisection.
 pub fn close_gap(priced: &PricedSeats<'_>, gap: Gap) -> Gap
     requires gap { IsGap (priced_in priced.now) gap }
     ensures gap { IsGap (priced_in priced.now) result }

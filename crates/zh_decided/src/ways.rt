@@ -1,4 +1,5 @@
-//! Augmenting paths: ways by which a row may take one seat more, in a column that lacks one, or from a row that has a way itself.
+//! Augmenting paths. A way says how a row can take one more seat: in a column that is short of one, or from a row that has a
+//! way itself.
 ghost use Rattle.std.specs.Prelude.{◌≡◌, ℕ, ◌*◌, ◌<◌, ◌↔◌, IfNone, IfSome, IsTrue, None, Some, length};
 ghost use Rattle.zh_matrices.specs.Asked.{asked};
 ghost use Rattle.zh_decided.specs.Bounds.{asked_in, bounds_of};
@@ -10,19 +11,19 @@ use zh_matrices::{LINES, Question, column_sum, row_sum};
 /// Where a seat in a column comes from.
 #[derive(Clone, Copy)]
 pub(crate) enum Source {
-    /// The column lacks one.
+    /// The column is short of a seat.
     Spare,
-    /// This row gives up one.
+    /// This row gives up a seat.
     Giver(usize),
 }
 
-/// How a row may take one seat more.
+/// How a row can take one more seat.
 #[derive(Clone, Copy)]
 pub(crate) struct Way {
-    /// Where it takes the seat.
+    /// The column in which it takes the seat.
     pub column: usize,
     pub source: Source,
-    /// How many rows had a way before.
+    /// How many rows had a way before this one.
     pub rank: usize,
 }
 
@@ -44,7 +45,7 @@ pub(crate) fn column_lacks(question: &Question<'_>, seats: &[u32], column: usize
     column_sum(question, seats, column) < u64::from(question.column_totals[column])
 }
 
-/// A row that can give up a seat in a column.
+/// A row that has a way and can give up a seat in a column.
 fn giver(
     bounds: &CellBounds<'_>,
     seats: &[u32],
@@ -109,7 +110,7 @@ fn add_sources(
     }
 }
 
-/// The first column with a source in which a row may have a seat more.
+/// The first column with a source in which a row can take one more seat.
 fn open_column(
     bounds: &CellBounds<'_>,
     seats: &[u32],
@@ -136,7 +137,8 @@ fn open_column(
     None
 }
 
-/// The first row without a way that may have a seat more in a column with a source, with the column and the source.
+/// The first row without a way that can take one more seat in a column with a source. Returns the row, the column and the
+/// source.
 fn next_row(
     bounds: &CellBounds<'_>,
     seats: &[u32],
@@ -164,7 +166,8 @@ fn next_row(
     None
 }
 
-/// Finds ways until a row that lacks a seat has one; that row is returned, or none if no row can get one.
+/// Finds ways until a row that is short of a seat has one. Returns that row, or None if no row that is short of a seat can get
+/// a way.
 pub(crate) fn reach(
     bounds: &CellBounds<'_>,
     seats: &[u32],

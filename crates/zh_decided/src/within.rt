@@ -1,4 +1,5 @@
-//! Whether a matrix within the bounds of its cells has all totals: a flow with bounds, by augmenting paths.
+//! Whether some matrix within the bounds of its cells has all totals: a feasible flow with lower and upper bounds, by
+//! augmenting paths.
 ghost use Rattle.std.specs.Bool.{OnFalse, OnTrue};
 ghost use Rattle.std.specs.Prelude.{◌≡◌, ℕ, List, ◌*◌, ◌↔◌, IsTrue, length, ◌≤◌, slice_index};
 ghost use Rattle.zh_decided.specs.Bounds.{AreAtMost, IsWithin, asked_in, bounds_of};
@@ -11,7 +12,7 @@ use crate::cells::{CellBounds, copy_cells};
 use crate::completion::{complete, fill_cells};
 use zh_matrices::{Question, column_sum, row_sum};
 
-/// Whether each cell has at most its most.
+/// Whether no cell is above its upper bound.
 fn are_at_most(bounds: &CellBounds<'_>, seats: &[u32]) -> bool
     requires { length seats.now ≡ bounds.now.question.now.rows * bounds.now.question.now.columns }
     ensures { IsTrue result ↔ AreAtMost (asked_in bounds.now) bounds.now.most.now seats.now }
@@ -24,7 +25,7 @@ fn are_at_most(bounds: &CellBounds<'_>, seats: &[u32]) -> bool
     true
 }
 
-/// Whether no row has more seats than it is to get.
+/// Whether no row has more seats than its total.
 fn have_rows_room(question: &Question<'_>, seats: &[u32]) -> bool
     requires { length seats.now ≡ question.now.rows * question.now.columns }
     ensures { IsTrue result ↔ words.HaveRowsRoom (asked question.now) seats.now }
@@ -37,7 +38,7 @@ fn have_rows_room(question: &Question<'_>, seats: &[u32]) -> bool
     true
 }
 
-/// Whether no column has more seats than it is to get.
+/// Whether no column has more seats than its total.
 fn have_columns_room(question: &Question<'_>, seats: &[u32]) -> bool
     requires { length seats.now ≡ question.now.rows * question.now.columns }
     ensures { IsTrue result ↔ words.HaveColumnsRoom (asked question.now) seats.now }
@@ -50,7 +51,7 @@ fn have_columns_room(question: &Question<'_>, seats: &[u32]) -> bool
     true
 }
 
-/// Places the fewest seats of each cell; false where they are more than some cell or line may have.
+/// Gives each cell its lower bound. False if these exceed the upper bound of a cell or the total of a line.
 fn place_least(bounds: &CellBounds<'_>, seats: &mut [u32]) -> bool
     requires { length seats.old ≡ bounds.now.question.now.rows * bounds.now.question.now.columns }
     ensures placed { OnTrue result (words.ArePlaced (asked_in bounds.now) (bounds_of bounds.now) seats.new) }
@@ -66,7 +67,7 @@ fn place_least(bounds: &CellBounds<'_>, seats: &mut [u32]) -> bool
     have_columns_room(bounds.question, seats)
 }
 
-/// Leaves in `seats` a matrix within the bounds with all totals; false where there is none.
+/// Writes a matrix within the bounds with all totals to `seats`. False if there is none.
 pub fn fill_within(bounds: &CellBounds<'_>, seats: &mut [u32]) -> bool
     requires { length seats.old ≡ bounds.now.question.now.rows * bounds.now.question.now.columns }
     ensures within { OnTrue result (IsWithin (asked_in bounds.now) (bounds_of bounds.now) seats.new) }
@@ -82,7 +83,7 @@ pub fn fill_within(bounds: &CellBounds<'_>, seats: &mut [u32]) -> bool
     complete(bounds, seats).is_ok()
 }
 
-/// The seats of all lines.
+/// The sum of these totals.
 fn sum_of(totals: &[u32]) -> u64
     requires { length totals.now ≤ 32 }
     ensures { result ≡ sum_to (length totals.now) (λ line. slice_index totals.now line) }
@@ -94,7 +95,7 @@ fn sum_of(totals: &[u32]) -> u64
     sum
 }
 
-/// Whether rows and columns are to get as many seats.
+/// Whether the row totals and the column totals have the same sum.
 pub fn are_balanced(question: &Question<'_>) -> bool
     ensures { IsTrue result ↔ AreBalanced (asked question.now) }
 {

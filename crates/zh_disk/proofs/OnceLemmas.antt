@@ -1,4 +1,4 @@
--- A failing disk that fails once, seen as a disk that fails once.
+-- A `FailingDisk` with `fails_once` behaves as a disk that fails once.
 use Rattle.std.proofs.Common.{◌≡◌, ℕ, zero, suc, true, Option, Some, None, Result, refl, sym, ◌∙◌, ap, add-one}
 use Rattle.std.specs.Prelude.{◌≢◌}
 use Rattle.zh_disk.specs.declared.disk.DiskFault.{DiskFault}
@@ -6,7 +6,7 @@ use Rattle.zh_disk.specs.declared.failing.FailingDisk.{FailingDisk}
 use Rattle.zh_disk.specs.History.{History}
 use Rattle.zh_disk.specs.Failing.{FailsAfter, IsOneCall, inside, calls_left, fails_once}
 
--- every call but the first that fails is one call of the disk inside
+-- every call except the first that fails is one call of the disk inside
 module _ {D : Type 0} (history : D → History) (last : D → D → Type 0) (old new : FailingDisk D) (result : Result (Unit {0}) DiskFault)
     (failing : FailsAfter history last old new result) (once : fails_once old ≡ true) where
   passes_at : (left : Option ℕ) → calls_left old ≡ left → left ≢ Some 0 → IsOneCall history (inside old) (inside new) result

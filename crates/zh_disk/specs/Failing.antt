@@ -1,4 +1,4 @@
--- What a failing disk holds, and what a call of it does.
+-- The state of a failing disk, and what each call does to it.
 use Rattle.std.specs.Prelude.{◌≡◌, Bool, true, false, ℕ, zero, suc, ◌+◌, List, Option, Some, None}
 use Rattle.std.specs.Prelude.{Result, is_err, IsErr}
 use Rattle.zh_disk.specs.declared.disk.DiskFault.{DiskFault}
@@ -10,51 +10,51 @@ use Rattle.zh_disk.specs.History.{History, Counts, Call, failures_after}
 abbrev pub inside : {D : Type 0} → FailingDisk D → D
 inside d = d.inner
 
--- how many calls still pass, and nothing once it has failed
+-- how many calls still pass; None once a call has failed
 abbrev pub calls_left : {D : Type 0} → FailingDisk D → Option ℕ
 calls_left d = d.left
 
--- whether the first call that fails is the only one
+-- whether only one call fails
 abbrev pub fails_once : {D : Type 0} → FailingDisk D → Bool
 fails_once d = d.fails_once
 
--- how often it has failed
+-- how many calls have failed
 abbrev pub failures_met : {D : Type 0} → FailingDisk D → ℕ
 failures_met d = d.failures
 
--- that of the disk inside, but for the failures, which it counts itself
+-- the history of the disk inside, except for the failures, which the failing disk counts itself
 abbrev pub failing_history : {D : Type 0} → (D → History) → FailingDisk D → History
 failing_history history d = record (history (inside d)) { failures = failures_met d }
 
--- a failing disk that has this disk inside and passes this many calls; then all fail, or that one alone
+-- a new failing disk around this disk: this many calls pass, and then only the next call fails (`alone`), or every later one
 pub record IsFailing {D : Type 0} (disk : D) (calls : ℕ) (alone : Bool) (d : FailingDisk D) : Type 0 where
   pub inner : inside d ≡ disk
   pub left : calls_left d ≡ Some calls
   pub once : fails_once d ≡ alone
   pub failures : failures_met d ≡ 0
 
--- after one call more: the call after those that pass fails
+-- how many calls still pass after one more call: at Some 0 that call fails, and None follows
 abbrev pub one_fewer : Option ℕ → Option ℕ
 one_fewer None = None
 one_fewer (Some zero) = None
 one_fewer (Some (suc n)) = Some n
 
--- nothing was done
+-- nothing has changed
 abbrev pub IsSame : {D : Type 0} → D → D → Type 0
 IsSame old new = new ≡ old
 
--- this write was made, whatever the disk answered
+-- the disk got this write, whatever it answered
 abbrev pub ReachesWrite : {D : Type 0} → (D → History) → ℕ → List ℕ → D → D → Type 0
 ReachesWrite history at bytes old new =
     (answer : Result (Unit {0}) DiskFault) × Call is_err (Writes at bytes) (history old) (history new) answer
 
--- one call of a disk, which counted a failure exactly where it failed
+-- one call of a disk that counts a failure exactly if the call failed
 abbrev pub IsOneCall : {D : Type 0} → (D → History) → D → D → Result (Unit {0}) DiskFault → Type 0
 IsOneCall history old new result = Counts (is_err result) (history old).failures (history new).failures
 
--- A call of a failing disk. One that passes is one call of the disk inside; the first that fails
--- does this to the disk inside. Of a disk that fails once every later one passes; of any other
--- every later one fails and does nothing. Each that fails is counted once.
+-- A call of a failing disk. A call that passes is one call of the disk inside. The first call that fails does `last` to the
+-- disk inside. After that every call passes if the disk fails once; otherwise every call fails and does nothing. Each failed
+-- call is counted once.
 pub record FailsAfter {D : Type 0} (history : D → History) (last : D → D → Type 0) (old new : FailingDisk D)
     (result : Result (Unit {0}) DiskFault) : Type 0 where
   pub counts : calls_left new ≡ one_fewer (calls_left old)

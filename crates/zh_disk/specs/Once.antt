@@ -1,4 +1,4 @@
--- What a disk that fails once holds, and what a call of it does.
+-- The state of a disk that fails once, and what each call does to it.
 use Rattle.std.specs.Prelude.{◌≡◌, ◌≢◌, ℕ, Option, Some, Result, IsErr}
 use Rattle.zh_disk.specs.declared.disk.DiskFault.{DiskFault}
 use Rattle.zh_disk.specs.declared.disk.Disk.{Ghosts}
@@ -11,20 +11,20 @@ module _ {D : Type 0} {g : Ghosts D} where
   abbrev pub disk_inside : OnceDisk D g → D
   disk_inside d = inside d.failing
 
-  -- how many calls pass before the one that fails, and nothing once it has failed
+  -- how many calls pass before the one that fails; None once that has failed
   abbrev pub calls_before : OnceDisk D g → Option ℕ
   calls_before d = calls_left d.failing
 
-  -- how often it has failed
+  -- how many calls have failed
   abbrev pub once_failures : OnceDisk D g → ℕ
   once_failures d = failures_met d.failing
 
-  -- that of the disk inside, but for the failures, which it counts itself
+  -- the history of the disk inside, except for the failures, which this disk counts itself
   abbrev pub once_history : OnceDisk D g → History
   once_history d = failing_history g.history d.failing
 
-  -- A call of a disk that fails once. The one after those that pass fails, and does this to the disk
-  -- inside; every other one is one call of the disk inside. Each that fails is counted once.
+  -- A call of a disk that fails once. The one call that fails by design does `last` to the disk inside. Every other call is one
+  -- call of the disk inside. Each failed call is counted once.
   pub record FailsOnce (last : D → D → Type 0) (old new : OnceDisk D g) (result : Result (Unit {0}) DiskFault) : Type 0 where
     pub counts : calls_before new ≡ one_fewer (calls_before old)
     pub rises : once_failures new ≡ failures_after (once_failures old) result

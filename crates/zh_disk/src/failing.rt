@@ -1,4 +1,4 @@
-//! Disks that fail: one that passes some calls and then fails for good, and one that fails in one call alone.
+//! Disks that fail: one passes a number of calls and then fails for good, the other fails in a single call.
 ghost use Rattle.std.specs.Prelude.{◌≡◌, ◌+◌, ◌≤◌, true, false, length, is_err, Some};
 ghost use Rattle.zh_disk.specs.Disk.{Reads, Writes, Syncs};
 ghost use Rattle.zh_disk.specs.Failing.{one_fewer, fails_once};
@@ -7,20 +7,20 @@ ghost use Rattle.zh_disk.specs.declared.disk.TheConstants.{DISK_LENGTH};
 
 use crate::disk::{DISK_LENGTH, Disk, DiskFault};
 
-/// How many calls still pass after one more, and none once it has failed.
+/// How many calls still pass after one more call; `None` once a call has failed.
 fn one_fewer(left: Option<u64>) -> Option<u64>
     ensures { result ≡ one_fewer left }
 {
     left?.checked_sub(1)
 }
 
-/// A disk that passes a number of calls to the disk inside, and then fails for good.
+/// A disk that passes a number of calls to the disk inside and then fails for good. Inside an [`OnceDisk`] only one call fails.
 #[derive(Drop)]
 pub struct FailingDisk<D: Disk + Drop> {
     inner: D,
-    // the calls that still pass, and none once it has failed
+    // how many calls still pass; `None` once a call has failed
     left: Option<u64>,
-    // whether the first call that fails is the only one
+    // whether only one call fails
     fails_once: bool,
     failures: u64,
 }
@@ -28,8 +28,8 @@ pub struct FailingDisk<D: Disk + Drop> {
 impl<D: Disk + Drop> FailingDisk<D> {
     ghost use Rattle.zh_disk.specs.Failing.{IsFailing, inside, calls_left, fails_once, failures_met};
 
-    /// A failing disk that passes this many calls. The next one fails; if it is a write, the disk inside
-    /// gets it. Every later call fails and does nothing.
+    /// A failing disk that passes this many calls. The next call fails, but if it is a write it still
+    /// reaches the disk inside. Every later call fails and does nothing.
     pub fn new(inner: D, calls: u64) -> Self
         ensures { IsFailing inner calls false result }
     {
@@ -41,8 +41,8 @@ impl<D: Disk + Drop> FailingDisk<D> {
         }
     }
 
-    /// A failing disk that passes all calls but one, the one after this many. It fails, and if it is a
-    /// write, the disk inside gets it.
+    /// A failing disk that passes all calls except the one after this many. That call fails, but if it
+    /// is a write it still reaches the disk inside.
     pub(crate) fn once(inner: D, calls: u64) -> Self
         ensures { IsFailing inner calls true result }
     {
@@ -58,7 +58,7 @@ impl<D: Disk + Drop> FailingDisk<D> {
         self.inner
     }
 
-    /// Counts a failure if the call failed, and gives its answer.
+    /// Counts a failure if the call failed. Returns the result of the call.
     fn counted(&mut self, done: Result<(), DiskFault>) -> Result<(), DiskFault>
         ensures answer { result ≡ done }
         ensures inner { inside self.new ≡ inside self.old }
@@ -143,7 +143,7 @@ impl<D: Disk + Drop> Disk for FailingDisk<D> {
     }
 }
 
-/// A disk that hands each call on to the disk inside, but for one, which fails.
+/// A disk that passes each call to the disk inside, except for one call, which fails.
 #[derive(Drop)]
 pub struct OnceDisk<D: Disk + Drop> {
     failing: FailingDisk<D>,
@@ -153,8 +153,8 @@ pub struct OnceDisk<D: Disk + Drop> {
 impl<D: Disk + Drop> OnceDisk<D> {
     ghost use Rattle.zh_disk.specs.Once.{disk_inside, calls_before, once_failures};
 
-    /// A disk that fails the call after this many, and no other. If that call is a write, the disk
-    /// inside gets it, so that its range is pending.
+    /// A disk that fails only the call after this many. If that call is a write it still reaches the
+    /// disk inside, so its range can be pending.
     pub fn new(inner: D, calls: u64) -> Self
         ensures inner { disk_inside result ≡ inner }
         ensures before { calls_before result ≡ Some calls }

@@ -1,4 +1,4 @@
--- What the crates above may use.
+-- The lemmas that crates above may use.
 pub use Rattle.zh_districts.proofs.CantonLemmas.{municipality_within, list_within, placed, not_misplaced}
 pub use Rattle.zh_districts.proofs.MaskLemmas.{mask_of-more, mask_of-lt}
 pub use Rattle.zh_districts.proofs.LengthLemmas.{is_name-short}

@@ -26,12 +26,12 @@ pub placed : (canton : Canton) (municipality list : ℕ) → misplaced canton mu
     → (has_municipality canton municipality ≡ true) × (stands canton (constituency_of canton municipality) list ≡ true)
 placed canton municipality list none = none_of (has_municipality canton municipality) (stands canton (constituency_of canton municipality) list) _ _ none
 
--- the other way round
+-- the converse
 pub not_misplaced : (canton : Canton) (municipality list : ℕ) → has_municipality canton municipality ≡ true
     → stands canton (constituency_of canton municipality) list ≡ true → misplaced canton municipality list ≡ None
 not_misplaced canton municipality list there standing = rw (there, standing) refl
 
--- a list after the last group stands nowhere, nor does list 0
+-- a list after the last group stands nowhere, and neither does list 0
 pub stands_past : (canton : Canton) (constituency list : ℕ) → length canton.groups < list → stands canton constituency list ≡ false
 stands_past canton constituency list past =
     let none = slice_get_past canton.groups (list - 1) (omega arith) in

@@ -1,4 +1,4 @@
--- What is told of each constituency.
+-- What the marks of each constituency say.
 use Rattle.std.proofs.Common.{◌≡◌, ◌∙◌, ◌==◌, ◌+◌, ◌-◌, ◌<◌, ℕ, List, Bool, false, IsTrue, length, map, get_or, refl, sym, ap, subst, Result, Ok, Err, IfOk, arith}
 use Rattle.std.specs.Prelude.{◌↔◌, replicate, slice_index_or}
 use Rattle.std.proofs.lemmas.List.{get_or-map, get_or-replicate, length-map, length-replicate}
@@ -35,7 +35,7 @@ told_claims canton marks told = record {
       (told.each k (omega (arith, within, each_persons_length canton)));
 }
 
--- where there are seats, those that get none
+-- if there are seats, the constituencies that get none
 pub told_unseated : (canton : Canton) (seats : List ℕ) → AreSeats canton seats → Tell (IsUnseated canton) (length canton.constituencies) (map (λ n. n == 0) seats)
 told_unseated canton seats are = record {
   one_each = length-map seats (λ n. n == 0) ∙ are.one_each ∙ each_persons_length canton;
@@ -51,7 +51,7 @@ told_unseated canton seats are = record {
       );
 }
 
--- where they are tied nobody has seats
+-- if the seats are tied, no constituency is marked
 pub told_nowhere : (canton : Canton) (marks : List Bool) → marks ≡ replicate (length canton.constituencies) false → IsTied (persons canton) canton.house
     → Tell (IsUnseated canton) (length canton.constituencies) marks
 told_nowhere canton marks none tie = record {
@@ -63,7 +63,7 @@ told_nowhere canton marks none tie = record {
       );
 }
 
--- what follows of what was returned
+-- what follows from a result
 pub if_ok : {A E : Type 0} (r : Result A E) (P Q : A → Type 0) → ((a : A) → P a → Q a) → IfOk r P → IfOk r Q
 if_ok (Ok a) P Q then is = then a is
 if_ok (Err e) P Q then is = tt

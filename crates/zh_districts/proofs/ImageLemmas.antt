@@ -1,4 +1,4 @@
--- What holds of the parts of a set-up within its limits.
+-- What holds for the parts of a set-up within its limits.
 use Rattle.std.proofs.Common.{◌≡◌, ◌≤◌, ◌^◌, ◌<◌, ◌∙◌, ℕ, List, [], ◌∷◌, length, map, get_or, sym, ap, subst, refl, arith}
 use Rattle.std.specs.Prelude.{All, Any, Some, slice_get}
 use Rattle.std.specs.Option.{option_map}
@@ -15,7 +15,7 @@ use Rattle.zh_districts.specs.declared.setup.Setup.TheInside.{Inside}
 use Rattle.zh_districts.specs.declared.setup.Group.{Group}
 use Rattle.zh_districts.specs.declared.setup.Constituency.{Constituency}
 
--- what holds of each image holds of the image of the element at place k
+-- what holds for each image holds for the image of the element at place k
 pub image_at : {X Y : Type 0} (P : Y → Type 0) (f : X → Y) (xs : List X) (k : ℕ) (x : X) → All P (map f xs) → k < length xs → x ≡ get_or xs k x → P (f x)
 image_at P f xs k x all k_in x_is =
     subst P (get_or-map f xs k x ∙ ap f (sym x_is)) (all k (f x) (subst (λ n. k < n) (sym (length-map xs f)) k_in))
@@ -24,12 +24,12 @@ image_at P f xs k x all k_in x_is =
 pub image_is : {X Y : Type 0} (f : X → Y) (xs : List X) (k : ℕ) (x : X) → k < length xs → x ≡ get_or xs k x → slice_get (map f xs) k ≡ Some (f x)
 image_is f xs k x k_in x_is = slice_get-map f xs k ∙ ap (option_map f) (slice_get_read xs (length xs) k x refl k_in x_is)
 
--- the group that stands at place k has a place for each constituency
+-- the group at place k has one mark for each constituency
 pub columns_of : (s : Inside) → IsCanton (canton_of s) → (k : ℕ) (x : Group) → k < length s.groups.items → x ≡ get_or s.groups.items k x → length x.stands.items ≡ length s.constituencies.items
 columns_of s limits k x k_in x_is =
     image_at (λ g. length g.stands ≡ length (canton_of s).constituencies) group s.groups.items k x limits.stands k_in x_is ∙ length-map s.constituencies.items constituency
 
--- the persons of constituencies are those of what they stand for
+-- the persons of the constituencies are those of their contents
 pub persons_map : (xs : List Constituency) → map (λ x. x.persons) (map constituency xs) ≡ map (λ x. x.persons) xs
 persons_map [] = refl
 persons_map (x ∷ xs) = ap (λ ys. x.persons ∷ ys) (persons_map xs)
@@ -44,7 +44,7 @@ first_positive : (xs : List ℕ) → 1 ≤ length xs → All (λ w. 1 ≤ w) xs 
 first_positive [] some all = absurd (omega arith)
 first_positive (x ∷ xs) some all = (0, x, omega arith, refl, omega (arith, all 0 0 (omega arith)))
 
--- and the first of them is positive
+-- the first of them is positive
 pub persons_positive : (s : Canton) → IsCanton s → Any (λ w. 0 < w) (persons s)
 persons_positive s limits =
     let all = All-map (λ w. 1 ≤ w) (λ x. x.persons) s.constituencies

@@ -19,7 +19,7 @@ pub short_names : {X : Type 0} (name : X → List ℕ) (xs : List X) → AreName
 short_names name xs names k d k_in =
     is_name-short (name (get_or xs k d)) (subst (λ (x : List ℕ). IsTrue (is_name x)) (get_or-map name xs k d) (names.rule k (name d) (omega (arith, length-map xs name))))
 
--- the parts joined, of which none is longer than n
+-- parts that are joined, each of at most n bytes
 length-flat_map : {X : Type 0} (f : X → List ℕ) (n : ℕ) (xs : List X) → All (λ x. length (f x) ≤ n) xs → length (flat_map f xs) ≤ length xs * n
 length-flat_map f n [] all = omega arith
 length-flat_map f n (x ∷ xs) all =

@@ -10,7 +10,7 @@ use Rattle.zh_districts.specs.Canton.{Canton, Constituency, Municipality, Group,
 use Rattle.zh_districts.specs.Spelling.{name_spelling, mask_of, constituency_spelling, municipality_spelling, group_spelling, quorum_spelling, setup_spelling}
 use Rattle.zh_districts.proofs.MaskLemmas.{mask_of-fits}
 
--- two texts that go on after fronts of one length
+-- if two texts are equal, their fronts of the same length are equal, and so are the rests
 same_front : (a b c d : List ℕ) → length a ≡ length b → a ++ c ≡ b ++ d → (a ≡ b) × (c ≡ d)
 same_front [] [] c d len e = (refl, e)
 same_front [] (y ∷ b) c d len e = absurd (omega arith)
@@ -31,7 +31,7 @@ same_name a b c d e =
     let len : length a ≡ length b = ap (λ (xs : List ℕ). get_or xs 0 0) e in
     same_front a b c d len (ap (drop 1) e)
 
--- masks of as many places
+-- equal masks of the same number of places have equal places
 same_mask : (xs ys : List Bool) → length xs ≡ length ys → mask_of xs ≡ mask_of ys → xs ≡ ys
 same_mask [] [] len e = refl
 same_mask [] (y ∷ ys) len e = absurd (omega arith)
@@ -73,14 +73,14 @@ same_parts a b e f g h q =
     ∙ ap (λ (x : List Group). a_canton b.house b.constituencies b.municipalities x a.canton_quorum) h
     ∙ ap (a_canton b.house b.constituencies b.municipalities b.groups) q
 
--- a quorum within its limits has one spelling
+-- equal bytes spell equal quorums within the limits
 same_quorum : (p q : Option ℕ) → IfSome p (λ x. (1 ≤ x) × (x ≤ 49)) → IfSome q (λ x. (1 ≤ x) × (x ≤ 49)) → quorum_spelling p ≡ quorum_spelling q → p ≡ q
 same_quorum None None hp hq e = refl
 same_quorum None (Some n) hp hq e = absurd (omega (arith, ap length e))
 same_quorum (Some m) None hp hq e = absurd (omega (arith, ap length e))
 same_quorum (Some m) (Some n) hp hq e = ap (λ (x : ℕ). Some x) (same_16 m n (omega (arith, hp.1)) (omega (arith, hq.1)) e)
 
--- what f writes of each x with P determines x and where it ends
+-- what f writes for each x with the property P determines x and where it ends
 abbrev Describes : {X : Type 0} → (X → Type 0) → (X → List ℕ) → Type 0
 Describes {X} P f = (x y : X) (c d : List ℕ) → P x → P y → f x ++ c ≡ f y ++ d → (x ≡ y) × (c ≡ d)
 
@@ -109,7 +109,7 @@ groups_tell n few x y c d px py e =
     let name = same_name x.name y.name c d apart.1 in
     (same_group x y name.0 stands, name.1)
 
--- as many parts
+-- the same for lists of the same number of parts
 parts_determine : {X : Type 0} (P : X → Type 0) (f : X → List ℕ) → Describes P f → (xs ys : List X) (c d : List ℕ) → length xs ≡ length ys
     → AllByRecursion P xs → AllByRecursion P ys → flat_map f xs ++ c ≡ flat_map f ys ++ d → (xs ≡ ys) × (c ≡ d)
 parts_determine P f determines [] [] c d len px py e = (refl, e)
@@ -122,7 +122,7 @@ parts_determine P f determines (x ∷ xs) (y ∷ ys) c d len px py e =
     let others = parts_determine P f determines xs ys c d (omega arith) px.1 py.1 first.1 in
     (rw (first.0, others.0) refl, others.1)
 
--- what stands after the house, after the constituencies, and after the municipalities
+-- the bytes after the house, after the constituencies, and after the municipalities
 abbrev after_municipalities : Canton → List ℕ
 after_municipalities canton = length canton.groups ∷ (flat_map group_spelling canton.groups ++ quorum_spelling canton.canton_quorum)
 

@@ -1,4 +1,4 @@
--- The bytes of a set-up are those of its parts, one after the other.
+-- The bytes of a set-up are those of its parts, one after another.
 use Rattle.std.proofs.Common.{◌≡◌, ℕ, List, ◌∷◌, ◌++◌, length, map, refl}
 use Rattle.std.specs.Int.{w16, to_be_bytes}
 use Rattle.std.specs.List.{flat_map}
@@ -9,7 +9,7 @@ use Rattle.zh_districts.specs.Parts.{constituency, municipality, group}
 use Rattle.zh_districts.specs.Spelling.{constituency_spelling, municipality_spelling, group_spelling, quorum_spelling, setup_spelling}
 use Rattle.zh_districts.specs.declared.setup.Setup.TheInside.{Inside}
 
--- the house, the constituencies, the municipalities, the groups and the quorum, each after what was put before it
+-- the house, the constituencies, the municipalities, the groups and the quorum, each appended to what was written before it
 pub spelled : (s : Inside) (canton : Canton) (house constituencies municipalities groups quorum : List ℕ)
     → canton_of s ≡ canton → house ≡ to_be_bytes w16 s.house
     → constituencies ≡ house ++ (length s.constituencies.items ∷ flat_map constituency_spelling (map constituency s.constituencies.items))

@@ -15,7 +15,8 @@ pub record Municipality : Type 0 where
   pub name : List ℕ
   pub constituency : ℕ
 
--- a group, one list number for the whole canton: its name in UTF-8, and for each constituency in order whether it stands there
+-- a group, which has one list number in the whole canton: its name in UTF-8, and for each constituency, in order, whether it
+-- stands there
 pub record Group : Type 0 where
   pub name : List ℕ
   pub stands : List Bool
@@ -29,7 +30,7 @@ pub record Canton : Type 0 where
   pub groups : List Group
   pub canton_quorum : Option ℕ
 
--- whether the set-up has a municipality of this number
+-- whether the set-up has a municipality with this number
 abbrev pub has_municipality : Canton → ℕ → Bool
 has_municipality canton m = nat_le 1 m && nat_le m (length canton.municipalities)
 
@@ -41,16 +42,16 @@ persons_of canton d = option_map_or (λ x. x.persons) (slice_get canton.constitu
 abbrev pub constituency_of : Canton → ℕ → ℕ
 constituency_of canton m = option_map_or (λ x. x.constituency) (slice_get canton.municipalities (m - 1)) 0
 
--- whether a list of this number stands in constituency d
+-- whether the list with this number stands in constituency d
 abbrev pub stands : Canton → ℕ → ℕ → Bool
 stands canton d list =
     nat_le 1 list && option_map_or (λ x. unwrap_or (slice_get x.stands (d - 1)) false) (slice_get canton.groups (list - 1)) false
 
--- no control character U+0000 to U+001F nor U+007F: in UTF-8 each of these is its one byte, which stands for nothing else
+-- not a control character, U+0000 to U+001F or U+007F; in UTF-8 each of these is one byte, which is part of no other character
 abbrev pub is_printable : ℕ → Bool
 is_printable byte = nat_le 32 byte && not (byte == 127)
 
--- 1 to 40 bytes without a control character, and no space at either end
+-- 1 to 40 bytes, with no control character and no space at either end
 abbrev pub is_plain : List ℕ → Bool
 is_plain name =
     nat_le 1 (length name) && nat_le (length name) 40 && not (slice_index name 0 == 32)
@@ -60,7 +61,7 @@ is_plain name =
 abbrev pub is_name : List ℕ → Bool
 is_name name = is_utf8 name && is_plain name
 
--- the names of one kind, of constituencies, of municipalities or of groups
+-- the names of all constituencies, of all municipalities or of all groups
 pub record AreNames (names : List (List ℕ)) : Type 0 where
   pub rule : All (λ name. IsTrue (is_name name)) names
   pub different : AllPairs (λ a b. a ≢ b) names

@@ -12,7 +12,7 @@ IsTiedIn canton d = HasSameClaim (persons canton) canton.house (d - 1)
 abbrev pub IsUnseated : Canton → ℕ → Type 0
 IsUnseated canton d = (seats : List ℕ) × AreSeats canton seats × (slice_index seats (d - 1) ≡ 0)
 
--- for each number from 1 to n in order whether this holds
+-- for each number from 1 to n, in order, whether this holds
 pub record Tell (Holds : ℕ → Type 0) (n : ℕ) (marks : List Bool) : Type 0 where
   pub one_each : length marks ≡ n
   pub each : (k : ℕ) → k < n → IsTrue (slice_index_or marks k false) ↔ Holds (k + 1)

@@ -1,4 +1,4 @@
--- What the fields of a set-up stand for.
+-- What the fields of a set-up mean.
 use Rattle.zh_districts.specs.Canton.{Canton}
 use Rattle.zh_districts.specs.Parts.{canton_from}
 use Rattle.zh_districts.specs.declared.setup.Setup.TheInside.{Inside}

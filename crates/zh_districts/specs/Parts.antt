@@ -1,4 +1,4 @@
--- What the parts of a set-up stand for.
+-- What the parts of a set-up mean.
 use Rattle.std.specs.Prelude.{ℕ, Option, List, map, string_bytes}
 use Rattle.zh_districts.specs.Canton as canton
 use Rattle.zh_districts.specs.declared.setup.Constituency.{Constituency}
@@ -6,7 +6,7 @@ use Rattle.zh_districts.specs.declared.setup.Municipality.{Municipality}
 use Rattle.zh_districts.specs.declared.setup.Group.{Group}
 use Rattle.zh_districts.specs.declared.setup.Draft.{Draft}
 
--- a constituency, without where it lies in memory
+-- a constituency by its content, wherever it is in memory
 abbrev pub constituency : Constituency → canton.Constituency
 constituency x = record { name = string_bytes x.name; persons = x.persons }
 

@@ -9,7 +9,7 @@ use Rattle.zh_districts.specs.Canton.{Canton, Constituency, Municipality, Group}
 abbrev pub name_spelling : List ℕ → List ℕ
 name_spelling name = length name ∷ name
 
--- the number whose bit d - 1 is set where the group stands in constituency d
+-- the number whose bit d - 1 is set if the group stands in constituency d
 abbrev pub mask_of : List Bool → ℕ
 mask_of [] = 0
 mask_of (here ∷ others) = (if here then 1 else 0) + 2 * mask_of others
@@ -26,12 +26,12 @@ municipality_spelling x = x.constituency ∷ name_spelling x.name
 abbrev pub group_spelling : Group → List ℕ
 group_spelling x = to_be_bytes w32 (mask_of x.stands) ++ name_spelling x.name
 
--- two bytes of the canton-wide quorum, where there is one
+-- two bytes of the canton-wide quorum, if there is one
 abbrev pub quorum_spelling : Option ℕ → List ℕ
 quorum_spelling quorum = option_map_or (to_be_bytes w16) quorum []
 
--- two bytes of house; of each kind how many there are, in two bytes for municipalities and else in one, and then each; and
--- the canton-wide quorum
+-- two bytes of house; constituencies, municipalities and groups, each kind with its number (two bytes for municipalities, one
+-- for the others) and then its parts; and the canton-wide quorum
 abbrev pub setup_spelling : Canton → List ℕ
 setup_spelling canton =
     to_be_bytes w16 canton.house

@@ -36,7 +36,7 @@ fn put_municipality(out: &mut Vec<u8>, part: &Municipality) -> Result<(), AllocE
     put_name(out, part.name.as_str())
 }
 
-/// The number whose bit `d - 1` is set where the group stands in constituency `d`.
+/// The number whose bit `d - 1` is set if the group stands in constituency `d`.
 fn mask(stands: &[bool]) -> u32
     requires { length stands.now ≤ 32 }
     ensures { result ≡ mask_of stands.now }
@@ -59,7 +59,7 @@ fn put_group(out: &mut Vec<u8>, part: &Group) -> Result<(), AllocError>
     put_name(out, part.name.as_str())
 }
 
-/// How many constituencies there are, in one byte, and then each.
+/// Appends the number of constituencies, in one byte, and then each of them.
 pub(crate) fn put_constituencies(
     out: &mut Vec<u8>,
     parts: &[Constituency],
@@ -76,7 +76,7 @@ pub(crate) fn put_constituencies(
     Ok(())
 }
 
-/// How many municipalities there are, in two bytes, and then each.
+/// Appends the number of municipalities, in two bytes, and then each of them.
 pub(crate) fn put_municipalities(
     out: &mut Vec<u8>,
     parts: &[Municipality],
@@ -94,7 +94,7 @@ pub(crate) fn put_municipalities(
     Ok(())
 }
 
-/// How many groups there are, in one byte, and then each.
+/// Appends the number of groups, in one byte, and then each of them.
 pub(crate) fn put_groups(out: &mut Vec<u8>, parts: &[Group]) -> Result<(), AllocError>
     requires count { length parts.now < 256 }
     requires names { All (λ x. length x.name ≤ 40) (map group parts.now) }
@@ -108,7 +108,7 @@ pub(crate) fn put_groups(out: &mut Vec<u8>, parts: &[Group]) -> Result<(), Alloc
     Ok(())
 }
 
-/// The canton-wide quorum, in two bytes, where there is one.
+/// Appends the canton-wide quorum, in two bytes, if there is one.
 pub(crate) fn put_quorum(out: &mut Vec<u8>, quorum: Option<u32>) -> Result<(), AllocError>
     requires { IfSome quorum (λ q. q < 2 ^ 16) }
     ensures { OnOk result (out.new.items ≡ out.old.items ++ quorum_spelling quorum) }

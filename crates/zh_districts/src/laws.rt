@@ -1,4 +1,4 @@
-//! What the definitions of this crate say, for the crates above.
+//! What follows from the definitions of this crate, for the crates above.
 
 ghost use Rattle.std.specs.Prelude.{◌≡◌};
 ghost use Rattle.zh_districts.specs.Canton.{Canton, IsCanton};

@@ -32,14 +32,14 @@ pub struct Municipality {
     pub constituency: u32,
 }
 
-/// A group, and for each constituency in order whether it stands there.
+/// A group, and for each constituency, in order, whether it stands there.
 #[derive(Drop)]
 pub struct Group {
     pub name: String,
     pub stands: Vec<bool>,
 }
 
-/// The parts of a set-up, of which it is not known that they make one.
+/// The parts of a set-up, which need not be within its limits.
 #[derive(Drop)]
 pub struct Draft {
     pub house: u32,
@@ -123,7 +123,7 @@ impl Setup {
         self.constituencies[(constituency - 1) as usize].persons
     }
 
-    /// The persons of each constituency, in order.
+    /// The persons of each constituency, in order. Fails if memory is refused.
     pub(crate) fn each_persons(&self, alloc: Global) -> Result<Vec<u64>, AllocError>
         ensures persons { IfOk result (λ numbers. numbers.items ≡ persons self.now) }
         ensures limits { IsCanton self.now }
@@ -149,7 +149,7 @@ impl Setup {
         self.municipalities.len() as u32
     }
 
-    /// Whether there is a municipality of this number.
+    /// Whether there is a municipality with this number.
     pub fn has_municipality(&self, municipality: u32) -> bool
         ensures there { result ≡ has_municipality self.now municipality }
         ensures range { result ≡ true → (1 ≤ municipality) × (municipality ≤ length self.now.municipalities) }
@@ -197,7 +197,7 @@ impl Setup {
         self.groups[(group - 1) as usize].stands[(constituency - 1) as usize]
     }
 
-    /// Why a list does not stand in a municipality, if it does not.
+    /// Why a list does not stand in a municipality. None if it does.
     pub fn misplaced(&self, municipality: u32, list: u32) -> Option<Misplaced>
         ensures misplaced { result ≡ misplaced self.now municipality list }
         ensures municipality { IfNone result ((1 ≤ municipality) × (municipality ≤ length self.now.municipalities)) }
@@ -231,7 +231,7 @@ impl Setup {
     }
 }
 
-/// The bytes of a set-up, at most 24,392, as docs/FORMATS.md lays them out.
+/// The bytes of a set-up, at most 24,392, as docs/FORMATS.md describes them. Fails if memory is refused.
 pub fn setup_bytes(alloc: Global, setup: &Setup) -> Result<Vec<u8>, AllocError>
     ensures spelling { IfOk result (λ bytes. bytes.items ≡ setup_spelling setup.now) }
     ensures length { IfOk result (λ bytes. length bytes.items ≤ 24392) }

@@ -1,4 +1,4 @@
-//! The seats of the constituencies: between which they are tied, and which get none.
+//! The seats of the constituencies, which of them are tied, and which get none.
 ghost use Rattle.std.specs.Prelude.{◌≡◌, ◌≤◌, ◌<◌, ℕ, List, MatchOption, IfOk, IsErrOf, length, slice_index, ◌==◌, false, map, replicate};
 ghost use Rattle.zh_districts.specs.Canton.{IsCanton};
 ghost use Rattle.zh_districts.specs.Claims.{IsTiedIn, IsUnseated, Tell};
@@ -17,9 +17,9 @@ use zh_text::Name;
 #[error("{}", self.name())]
 pub enum SeatFault {
     Memory,
-    /// A seat is worth as much to two constituencies.
+    /// A seat is worth as much to one constituency as to another.
     Tied,
-    /// This constituency, the first such, gets no seat.
+    /// This constituency is the first that gets no seat.
     NoSeat(u32),
 }
 
@@ -59,7 +59,7 @@ fn fault_of(fault: ShareFault) -> SeatFault
     }
 }
 
-/// The number of the first constituency without a seat.
+/// The number of the first constituency without a seat. None if each has one.
 fn first_without(seats: &[u32]) -> Option<u32>
     requires { length seats.now ≤ 32 }
     ensures { MatchOption result ((k : ℕ) → k < length seats.now → 1 ≤ slice_index seats.now k) (IsFirstWithout seats.now) }
@@ -72,7 +72,7 @@ fn first_without(seats: &[u32]) -> Option<u32>
     None
 }
 
-/// The seats of the constituencies in proportion to their persons, where one may get none.
+/// The seats of the constituencies in proportion to their persons. A constituency can get none.
 pub(crate) fn proportion(alloc: Global, setup: &Setup) -> Result<Shares, ShareFault>
     ensures shares { Apportions (persons setup.now) setup.now.house result }
     ensures limits { IsCanton setup.now }
@@ -89,7 +89,7 @@ pub fn seats(alloc: Global, setup: &Setup) -> Result<Shares, SeatFault>
     ensures divisor { IfOk result (HasDivisor (persons setup.now)) }
     ensures rounds { IfOk result (RoundsEach (persons setup.now)) }
 
-    // Memory aside, each answer stands exactly where the others do not.
+    // The cases exclude each other. So, unless memory is refused, each answer is given if and only if its case holds.
     ensures tied { IsErrOf result SeatFault.Tied → IsTied (persons setup.now) setup.now.house }
     ensures no_seat { (d : ℕ) → IsErrOf result (SeatFault.NoSeat d) → (seats : List ℕ) × AreSeats setup.now seats × IsFirstWithout seats d }
 {
@@ -103,7 +103,7 @@ pub fn seats(alloc: Global, setup: &Setup) -> Result<Shares, SeatFault>
     }
 }
 
-/// For each constituency whether a seat is worth as much to it as to another.
+/// For each constituency, in order, whether a seat is worth as much to it as to another one. Fails if memory is refused.
 pub fn tied(alloc: Global, setup: &Setup) -> Result<Vec<bool>, AllocError>
     ensures { IfOk result (λ marks. Tell (IsTiedIn setup.now) (length setup.now.constituencies) marks.items) }
 {
@@ -112,21 +112,22 @@ pub fn tied(alloc: Global, setup: &Setup) -> Result<Vec<bool>, AllocError>
     same_claims(alloc, &weights, setup.house())
 }
 
-/// For each of these whether it is no seat.
+/// For each number of seats, in order, whether it is 0.
 fn nothing(alloc: Global, seats: &[u32]) -> Result<Vec<bool>, AllocError>
     ensures { IfOk result (λ marks. marks.items ≡ map (λ n. n == 0) seats.now) }
 {
     seats.iter().map(|count| *count == 0).collect(alloc)
 }
 
-/// So many that are not marked.
+/// `count` marks, none of them set.
 fn unmarked(alloc: Global, count: usize) -> Result<Vec<bool>, AllocError>
     ensures { IfOk result (λ marks. marks.items ≡ replicate count false) }
 {
     vec![in alloc; false; count]
 }
 
-/// For each constituency whether its persons give it no seat: none where the seats are tied.
+/// For each constituency, in order, whether its persons give it no seat. None is marked if the seats are tied. Fails if memory
+/// is refused.
 pub fn unseated(alloc: Global, setup: &Setup) -> Result<Vec<bool>, AllocError>
     ensures { IfOk result (λ marks. Tell (IsUnseated setup.now) (length setup.now.constituencies) marks.items) }
 {

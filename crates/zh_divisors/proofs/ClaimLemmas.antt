@@ -1,4 +1,4 @@
--- Between which weights a tie is, whichever fit shows it.
+-- Which weights a tie is between does not depend on the fit that shows it.
 use Rattle.std.proofs.Common.{◌≡◌, ◌∙◌, ℕ, ◌+◌, ◌-◌, ◌*◌, ◌<◌, ◌≤◌, List, Any, Bool, false, IsTrue, length, get_or, sum, subst, inl, inr, ⊎_elim, sym, ap, refl, arith}
 use Rattle.std.specs.Prelude.{◌⊎◌, ◌↔◌, replicate, slice_index_or, slice_set}
 use Rattle.std.proofs.lemmas.List.{get_or-replicate, get_or-set_other, length-replicate}
@@ -15,18 +15,18 @@ use Rattle.zh_divisors.proofs.OneFitLemmas.{no_strict_fit}
 use Rattle.zh_divisors.proofs.RatioLemmas.{le_by_le}
 use Rattle.zh_divisors.proofs.SumLemmas.{same-from_sum}
 
--- each weight over n / m rounds to its seats, perhaps on a half
+-- each weight over the divisor 2 n / m rounds to its seats, a half either way
 record AreRounded (weights seats : List ℕ) (n m : ℕ) : Type 0 where
   some : 0 < n
   parts : 0 < m
   upper : (k : ℕ) → k < length weights → get_or weights k 0 * m ≤ n * (2 * get_or seats k 0 + 1)
   lower : (k : ℕ) → k < length weights → 1 ≤ get_or seats k 0 → n * (2 * get_or seats k 0 - 1) ≤ get_or weights k 0 * m
 
--- an odd number of half seats more is worth more
+-- a weight times more half seats is not less
 more_halves : (w a b : ℕ) → a ≤ b → w * a ≤ w * b
 more_halves w a b less = mul-le-mul_left w less
 
--- twice what the last seat and the next one of a tie are worth, as divisor
+-- the weights are so rounded in a tie: its divisor is twice what its last seat and its next seat are worth
 tie_rounds : (weights : List ℕ) (house : ℕ) → Any (λ w. 0 < w) weights → (t : IsTied weights house) →
     AreRounded weights t.seats (get_or weights t.from 0) (2 * get_or t.seats t.from 0 - 1)
 tie_rounds weights house positive t = record {
@@ -43,7 +43,7 @@ tie_rounds weights house positive t = record {
       (cases_eq k t.to);
 }
 
--- the divisor of one is at most that of the other, where a weight of the first lies on a half above its seats
+-- the divisor of one fit is at most that of another, if a weight of the first is on the half above its seats
 at_most : (weights seats others : List ℕ) (n m p q e : ℕ) → length seats ≡ length weights → length others ≡ length weights → sum seats ≡ sum others
     → AreRounded weights seats n m → AreRounded weights others p q → e < length weights
     → get_or weights e 0 * q ≡ p * (2 * get_or others e 0 + 1) → p * m ≤ n * q
@@ -66,7 +66,7 @@ at_most weights seats others n m p q e size size' sums one other within half =
     (λ no. no)
     (cases_lt (n * q) (p * m))
 
--- a weight on a half under one of two equal divisors is so under the other
+-- a weight that is on a half under one of two equal divisors is on a half under the other
 half_moves : (w n m p q o : ℕ) → 0 < q → p * m ≡ n * q → w * q ≡ p * o → w * m ≡ n * o
 half_moves w n m p q o some level half =
     let one : m * (w * q) ≡ m * (p * o) = ap (λ x. m * x) half in
@@ -74,7 +74,7 @@ half_moves w n m p q o some level half =
     let all : q * (w * m) ≡ q * (n * o) = omega (arith, one, two) in
     le_antisymm (le_of_mul-le-mul_left (le_of_eq all) some) (le_of_mul-le-mul_left (le_of_eq (sym all)) some)
 
--- so its seats are those below the half, or above it
+-- so its seats are the number below the half or the number above it
 half_at : (w n m s h : ℕ) → 0 < n → w * m ≡ n * (2 * h + 1) → w * m ≤ n * (2 * s + 1) → (1 ≤ s → n * (2 * s - 1) ≤ w * m)
     → (w * m ≡ n * (2 * s + 1)) ⊎ ((1 ≤ s) × (w * m ≡ n * (2 * s - 1)))
 half_at w n m s h some half upper lower =
@@ -89,14 +89,14 @@ half_at w n m s h some half upper lower =
     (λ none. let is : 2 * h + 1 ≡ 2 * s + 1 = omega (arith, none, most) in inl (half ∙ ap (λ x. n * x) is))
     (cases_lt 0 s)
 
--- the divisors of two ties are one
+-- the divisors of two ties are equal
 one_level : (weights : List ℕ) (house : ℕ) → Any (λ w. 0 < w) weights → (t u : IsTied weights house)
     → get_or weights u.from 0 * (2 * get_or t.seats t.from 0 - 1) ≤ get_or weights t.from 0 * (2 * get_or u.seats u.from 0 - 1)
 one_level weights house positive t u =
     at_most weights t.seats u.seats _ _ _ _ u.to t.fit.one_each u.fit.one_each (t.fit.add_up ∙ sym u.fit.add_up)
     (tie_rounds weights house positive t) (tie_rounds weights house positive u) u.to_within u.as_much
 
--- whichever fit shows that a weight has the same claim as another, it shows in each fit of a tie
+-- if some fit shows that a weight has the same claim as another, each fit of a tie shows it
 pub same_in_each : (weights : List ℕ) (house k : ℕ) → Any (λ w. 0 < w) weights → (t : IsTied weights house) → HasSameClaim weights house k
     → (k < length weights) × IsWorthAsMuch weights t.seats t.from k
 same_in_each weights house k positive t claim =
@@ -122,7 +122,7 @@ same_in_each weights house k positive t claim =
     (kw, at (get_or u.seats u.to 0) kw (ap (λ x. get_or weights x 0 * q) (sym is) ∙ u.as_much)))
     claim.side
 
--- and a weight to which a seat is worth as much in the fit of a tie has the same claim as another
+-- a weight to which a seat is worth as much in the fit of a tie has the same claim as another
 pub claim_in_tie : (weights : List ℕ) (house k : ℕ) → Any (λ w. 0 < w) weights → (t : IsTied weights house) → k < length weights
     → IsWorthAsMuch weights t.seats t.from k → HasSameClaim weights house k
 claim_in_tie weights house k positive t kw worth =
@@ -168,7 +168,7 @@ claim_in_tie weights house k positive t kw worth =
     (cases_eq k t.to))
     worth
 
--- the seats that were given, where they are tied
+-- the flag of a weight for the seats that were given, if they are tied
 pub claim_there : (weights seats : List ℕ) (house last next k : ℕ) → IsFit weights house seats → Any (λ w. 0 < w) weights
     → IsLeastLast weights seats (length weights) last → IsMostNext weights seats (length weights) next
     → get_or weights last 0 * (2 * get_or seats next 0 + 1) ≤ get_or weights next 0 * (2 * get_or seats last 0 - 1)
@@ -177,7 +177,7 @@ claim_there weights seats house last next k fit some last_is next_is together kw
     let t : IsTied weights house = IsTied-together weights seats house last next fit some last_is next_is together in
     (λ worth. claim_in_tie weights house k some t kw worth, λ claim. (same_in_each weights house k some t claim).1)
 
--- and where they are not
+-- the flags for the seats that were given, if they are not tied
 pub claim_nowhere : (weights seats : List ℕ) (house last next : ℕ) (claims : List Bool) → IsFit weights house seats → AreApart weights seats last next
     → claims ≡ replicate (length weights) false → TellClaims weights house claims
 claim_nowhere weights seats house last next claims fit apart none = record {
@@ -189,7 +189,7 @@ claim_nowhere weights seats house last next claims fit apart none = record {
       );
 }
 
--- one weight more was looked at
+-- one more weight was looked at
 pub told_more : (weights : List ℕ) (house k : ℕ) (claims : List Bool) (b : Bool) → length claims ≡ length weights → k < length weights
     → ((i : ℕ) → i < k → IsTrue (slice_index_or claims i false) ↔ HasSameClaim weights house i) → IsTrue b ↔ HasSameClaim weights house k
     → (length (slice_set claims k b) ≡ length weights)
@@ -207,7 +207,7 @@ told_more weights house k claims b size within before here = (
       (cases_eq i k),
 )
 
--- what was told of equal weights
+-- what was found for equal weights
 pub told_all : (weights others : List ℕ) (house n : ℕ) (claims : List Bool) → others ≡ weights → length claims ≡ length others → length others ≤ n
     → ((i : ℕ) → i < n → IsTrue (slice_index_or claims i false) ↔ HasSameClaim others house i) → TellClaims weights house claims
 told_all weights others house n claims same size all told = subst (λ (w : List ℕ). TellClaims w house claims) same

@@ -9,7 +9,7 @@ use Rattle.zh_divisors.proofs.LastSeatLemmas.{AreApart, RoundsEach-apart, positi
 use Rattle.zh_divisors.proofs.SumLemmas.{sum-zeros}
 use Rattle.zh_divisors.proofs.WorthLemmas.{IsMostNext-first, IsMostNext-keep, IsMostNext-take, IsLeastLast-keep, IsLeastLast-seat, IsLeastLast-take}
 
--- among the first n + 1 there is a greatest next seat
+-- among the first n + 1 weights there is a next seat that is worth most
 most_next : (weights seats : List ℕ) (n : ℕ) → (j : ℕ) × IsMostNext weights seats (n + 1) j
 most_next weights seats zero = (0, IsMostNext-first weights seats)
 most_next weights seats (suc n) =
@@ -20,7 +20,7 @@ most_next weights seats (suc n) =
       | inr less ↦ (j, rw (← add-one n) (IsMostNext-keep weights seats (n + 1) j before.1 less))
     ]
 
--- among the first n there is a least last seat, or nobody has one
+-- among the first n weights there is a last seat that is worth least, or no weight has a seat
 least_last : (weights seats : List ℕ) (n : ℕ) →
     ((k : ℕ) → k < n → get_or seats k 0 ≡ 0) ⊎ ((i : ℕ) × IsLeastLast weights seats n i)
 least_last weights seats zero = inl (λ k lt. absurd (omega arith))
@@ -39,7 +39,7 @@ least_last weights seats (suc n) = rw (← add-one n) (elim (cases_lt 0 (get_or 
   ]
 ])
 
--- the two lie apart, also where one weight has both
+-- the two seats lie apart, even if one weight has both
 apart : (weights seats : List ℕ) (house last next : ℕ) → Any (λ w. 0 < w) weights → IsStrictFit weights house seats →
     IsLeastLast weights seats (length weights) last → IsMostNext weights seats (length weights) next →
     AreApart weights seats last next

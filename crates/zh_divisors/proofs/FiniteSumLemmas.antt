@@ -22,7 +22,7 @@ sum_to-le zero f g below = omega arith
 sum_to-le (suc n) f g below =
     omega (arith, sum_to-le n f g (λ i lt. below i (omega arith)), below n (omega arith))
 
--- one of the terms is less
+-- no term is greater, and one is less
 pub sum_to-lt : (n : ℕ) (f g : ℕ → ℕ) (j : ℕ) → ((i : ℕ) → i < n → f i ≤ g i) → j < n → f j < g j → sum_to n f < sum_to n g
 sum_to-lt zero f g j below within less = absurd (omega arith)
 sum_to-lt (suc n) f g j below within less =
@@ -41,7 +41,7 @@ term-le-sum_to (suc n) f i lt = elim (cases_eq i n) [
   | inr other ↦ omega (arith, term-le-sum_to n f i (omega arith))
 ]
 
--- rounding half up, and half down, against the half above a number
+-- rounding half up and half down, compared with the half above a number
 pub half_up-at_most : (n p s : ℕ) → 0 < p → 2 * n < (2 * s + 1) * p → half_up n p ≤ s
 half_up-at_most n p s pos h =
     let twice : 0 < 2 * p = omega arith in

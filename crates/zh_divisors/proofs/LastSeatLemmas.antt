@@ -1,4 +1,4 @@
--- What the least last seat and the greatest next one say of all seats.
+-- What the least last seat and the greatest next seat say about all seats.
 use Rattle.std.proofs.Common.{◌≡◌, ◌≢◌, ℕ, ◌+◌, ◌-◌, ◌*◌, ◌<◌, ◌≤◌, List, Any, length, get_or, inl, inr, arith}
 use Rattle.std.proofs.lemmas.Bool.{cases_lt, cases_eq}
 use Rattle.std.proofs.lemmas.List.{get_or_default}
@@ -10,13 +10,13 @@ use Rattle.zh_divisors.specs.Shares.{Apportionment, RoundsEach}
 use Rattle.zh_divisors.specs.Worth.{IsLeastLast, IsMostNext}
 use Rattle.zh_divisors.proofs.RatioLemmas.{above_sum, below_sum, lt_by_le_lt, lt_by_lt_le}
 
--- the least last seat is worth more than the greatest next one
+-- the least last seat is worth more than the greatest next seat
 pub record AreApart (weights seats : List ℕ) (last next : ℕ) : Type 0 where
   pub last_is : IsLeastLast weights seats (length weights) last
   pub next_is : IsMostNext weights seats (length weights) next
   pub apart : get_or weights next 0 * (2 * get_or seats last 0 - 1) < get_or weights last 0 * (2 * get_or seats next 0 + 1)
 
--- then each last seat is worth more than the greatest next one
+-- then each last seat is worth more than the greatest next seat
 each_last : (weights seats : List ℕ) (last next : ℕ) → AreApart weights seats last next →
     (k : ℕ) → k < length weights → 1 ≤ get_or seats k 0 →
     get_or weights next 0 * (2 * get_or seats k 0 - 1) < get_or weights k 0 * (2 * get_or seats next 0 + 1)
@@ -24,7 +24,7 @@ each_last weights seats last next ends k within seated =
     lt_by_lt_le (get_or weights next 0) (2 * get_or seats next 0 + 1) (get_or weights last 0) (2 * get_or seats last 0 - 1)
     (get_or weights k 0) (2 * get_or seats k 0 - 1) (omega arith) ends.apart (ends.last_is.least k within seated)
 
--- and each next seat is worth less than the least last one
+-- and each next seat is worth less than the least last seat
 each_next : (weights seats : List ℕ) (last next : ℕ) → AreApart weights seats last next →
     (k : ℕ) → k < length weights →
     get_or weights k 0 * (2 * get_or seats last 0 - 1) < get_or weights last 0 * (2 * get_or seats k 0 + 1)
@@ -43,7 +43,7 @@ IsStrictFit-apart weights seats house last next fit ends = record {
       (each_last weights seats last next ends i iw seated);
 }
 
--- each weight rounds to its seats under the divisor that is shown
+-- each weight over the divisor of the result rounds to its seats
 each_rounds : (weights seats : List ℕ) (last next : ℕ) → AreApart weights seats last next →
     (k : ℕ) → k < length weights →
     Rounds (get_or weights k 0 * (get_or seats last 0 + get_or seats next 0)) (get_or weights last 0 + get_or weights next 0) (get_or seats k 0)
@@ -72,7 +72,7 @@ RoundsEach-apart weights shares last next ends num_is den_is = record {
   each = λ k within. rw (num_is, den_is) (each_rounds weights shares.seats last next ends k within);
 }
 
--- a weight with a seat is positive
+-- a weight that has a seat is positive
 pub positive_seated : (weights seats : List ℕ) (house i : ℕ) → IsFit weights house seats → Any (λ w. 0 < w) weights →
     i < length weights → 1 ≤ get_or seats i 0 → 0 < get_or weights i 0
 positive_seated weights seats house i fit (k, x, kw, is, positive) within seated =

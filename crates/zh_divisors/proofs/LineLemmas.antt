@@ -1,4 +1,4 @@
--- The rule's two divisors, from the seats given.
+-- The two divisors of the rule, from the seats that were given.
 use Rattle.std.proofs.Common.{◌≡◌, ℕ, ◌+◌, ◌-◌, ◌*◌, ◌/◌, ◌^◌, ◌<◌, ◌≤◌, List, length, get_or, slice_index, inl, inr, ap, ◌∙◌, arith}
 use Rattle.std.proofs.lemmas.Bool.{cases_lt}
 use Rattle.std.proofs.Math.Nat.{le-div_iff_mul-le, div-lt_iff_lt-mul, lt-mul-div-succ, div-mul-le_self}
@@ -48,7 +48,7 @@ IsGreatestDivisor-last votes others seats given i line fit last =
       ];
     }
 
--- so the two numbers of the code give the divisor
+-- so the two numbers that the code computes give the divisor
 pub line_divisor-is : (votes others seats : List ℕ) (target i j most least greatest : ℕ) → IsMatrixLine votes others → 1 ≤ target →
     AreGiven votes others seats target → IsLastCell votes others seats i → IsNextCell votes others seats (length votes) j →
     least ≡ 2 * (get_or votes j 0 * 10 ^ 12) / next_signpost others seats j + 1 →

@@ -1,4 +1,4 @@
--- Seats of a line with one more.
+-- The seats of a line after one more was given.
 use Rattle.std.proofs.Common.{◌≡◌, ◌≢◌, ℕ, zero, suc, ◌+◌, ◌-◌, ◌*◌, ◌<◌, ◌≤◌, List, Any, length, get_or, set, inl, inr, refl, arith, below_more}
 use Rattle.std.proofs.lemmas.Bool.{cases_eq, cases_lt}
 use Rattle.std.proofs.lemmas.List.{length-set, get_or-set_other, get_or-set_same, get_or_default}
@@ -41,7 +41,7 @@ IsNextCell-take votes others seats n j line within so_far more = record {
       (get_or votes n 0) (next_signpost others seats n) (positive_next votes others seats j line (omega (arith, so_far.within))) (so_far.most k lt) (omega arith)) (le_refl _);
 }
 
--- a seat more at one cell
+-- one more seat at one cell
 pub sum_to-one_more : (n : ℕ) (xs : List ℕ) (i : ℕ) → i < n → n ≤ length xs →
     sum_to n (λ k. get_or (set xs i (get_or xs i 0 + 1)) k 0) ≡ sum_to n (λ k. get_or xs k 0) + 1
 sum_to-one_more zero xs i lt room = absurd (omega arith)
@@ -74,7 +74,7 @@ positive_most votes others seats j line (k, x, kw, is, positive) best =
           absurd (omega arith)
     ]
 
--- the last signpost there is the next one of before
+-- the signpost of its last seat is what the signpost of its next seat was before
 last_is : (others seats : List ℕ) (next : ℕ) → next < length seats →
     last_signpost others (set seats next (get_or seats next 0 + 1)) next ≡ next_signpost others seats next
 last_is others seats next within =
@@ -85,7 +85,7 @@ last_is others seats next within =
 same_at : (seats : List ℕ) (next k : ℕ) → k ≢ next → get_or (set seats next (get_or seats next 0 + 1)) k 0 ≡ get_or seats k 0
 same_at seats next k apart = get_or-set_other seats next k (get_or seats next 0 + 1) 0 apart
 
--- next signposts become no less
+-- the signposts of next seats do not become less
 grown : (others seats : List ℕ) (next k : ℕ) → next < length seats →
     next_signpost others seats k ≤ next_signpost others (set seats next (get_or seats next 0 + 1)) k
 grown others seats next k within =
@@ -94,7 +94,7 @@ grown others seats next k within =
       | inr apart ↦ rw (same_at seats next k apart) (le_refl _)
     ]
 
--- a pair stays in order, once the seat was given to the greatest next one
+-- each pair is still in order after the seat was given where the next seat is worth most
 in_order-give : (votes others seats : List ℕ) (given next : ℕ) → AreGiven votes others seats given →
     IsNextCell votes others seats (length votes) next →
     (i j : ℕ) → i < length votes → j < length votes →
@@ -143,13 +143,13 @@ IsLastCell-give votes others seats given next had line fit best had_is =
       ];
     })
 
--- no cell has more than all
+-- no cell has more seats than were given
 pub each-le-given : (votes others seats : List ℕ) (given k : ℕ) → AreGiven votes others seats given → k < length votes →
     get_or seats k 0 ≤ given
 each-le-given votes others seats given k fit kw =
     omega (arith, term-le-sum_to (length votes) (λ i. get_or seats i 0) k kw, fit.add_up)
 
--- no seats at all
+-- before the first seat is given
 pub AreGiven-none : (votes others seats : List ℕ) → length votes ≤ length seats → sum_to (length votes) (λ k. get_or seats k 0) ≡ 0 →
     AreGiven votes others seats 0
 AreGiven-none votes others seats room empty = record {

@@ -1,4 +1,4 @@
--- What the seats given say of the line's totals.
+-- What the seats that were given say about the totals of the line.
 use Rattle.std.proofs.Common.{◌≡◌, ℕ, zero, suc, ◌+◌, ◌-◌, ◌*◌, ◌<◌, ◌≤◌, List, length, get_or, arith}
 use Rattle.std.proofs.lemmas.Nat.{mul-le}
 use Rattle.zh_divisors.specs.Sums.{sum_to}
@@ -8,7 +8,8 @@ use Rattle.zh_divisors.proofs.FiniteSumLemmas.{half_up-at_most, half_up-at_least
 use Rattle.zh_divisors.proofs.RatioLemmas.{lt_by_le_lt, lt_by_lt_le, le_by_le}
 use Rattle.zh_divisors.proofs.LineSeatsLemmas.{positive_next, positive_last}
 
--- a cell's votes times the unit, over the product of its divisors, rounded; D against its votes over a signpost
+-- the quotient of a cell's votes, times the unit, over the product of its divisors, rounded: D is compared with the votes over a
+-- signpost
 cell_up-at_most : (v o D unit s : ℕ) → 0 < o * D → v * (2 * unit) < D * (o * (2 * s + 1)) → half_up (v * unit) (o * D) ≤ s
 cell_up-at_most v o D unit s pos h = half_up-at_most (v * unit) (o * D) s pos (omega arith)
 
@@ -33,7 +34,7 @@ positive_product : (votes others : List ℕ) (D k : ℕ) → IsMatrixLine votes 
 positive_product votes others D k line one kw =
     mul-le 1 1 (get_or others k 0) D (line.each_positive k 0 (omega (arith, line.same_length))) one
 
--- above the best next seat, half up gives no more than the seats
+-- if D is above what the best next seat is worth, rounding half up gives at most the seats
 pub up_few : (votes others seats : List ℕ) (given j unit D : ℕ) → IsMatrixLine votes others → AreGiven votes others seats given →
     IsNextCell votes others seats (length votes) j → 1 ≤ D → get_or votes j 0 * (2 * unit) < D * next_signpost others seats j →
     sum_to (length votes) (λ i. half_up (get_or votes i 0 * unit) (get_or others i 0 * D)) ≤ given
@@ -44,7 +45,7 @@ up_few votes others seats given j unit D line fit best one above =
     (positive_next votes others seats k line kw) (best.most k kw) above) in
     omega (arith, sum_to-le (length votes) _ _ each, fit.add_up)
 
--- at or below it, more than the seats
+-- if D is at or below that, rounding half up gives more than the seats
 pub up_many : (votes others seats : List ℕ) (given j unit D : ℕ) → IsMatrixLine votes others → AreGiven votes others seats given →
     IsNextCell votes others seats (length votes) j → 1 ≤ D → D * next_signpost others seats j ≤ get_or votes j 0 * (2 * unit) →
     given < sum_to (length votes) (λ i. half_up (get_or votes i 0 * unit) (get_or others i 0 * D))
@@ -58,7 +59,7 @@ up_many votes others seats given j unit D line fit best one below =
     = half_up-at_least (get_or votes j 0 * unit) (get_or others j 0 * D) (get_or seats j 0) (positive_product votes others D j line one jw) (omega arith) in
     omega (arith, sum_to-lt (length votes) (λ k. get_or seats k 0) _ j each jw more, fit.add_up)
 
--- below the least last seat, half down gives at least the seats
+-- if D is below what the least last seat is worth, rounding half down gives at least the seats
 pub down_many : (votes others seats : List ℕ) (given i unit D : ℕ) → IsMatrixLine votes others → AreGiven votes others seats given →
     IsLastCell votes others seats i → 1 ≤ D → D * last_signpost others seats i < get_or votes i 0 * (2 * unit) →
     given ≤ sum_to (length votes) (λ k. half_down (get_or votes k 0 * unit) (get_or others k 0 * D))
@@ -69,7 +70,7 @@ down_many votes others seats given i unit D line fit last one below =
     (positive_last votes others seats k line kw seated) below (last.least k kw seated)) in
     omega (arith, sum_to-le (length votes) (λ k. get_or seats k 0) _ each, fit.add_up)
 
--- at or above it, fewer
+-- if D is at or above that, rounding half down gives fewer
 pub down_few : (votes others seats : List ℕ) (given i unit D : ℕ) → IsMatrixLine votes others → AreGiven votes others seats given →
     IsLastCell votes others seats i → 1 ≤ D → get_or votes i 0 * (2 * unit) ≤ D * last_signpost others seats i →
     sum_to (length votes) (λ k. half_down (get_or votes k 0 * unit) (get_or others k 0 * D)) < given

@@ -1,4 +1,4 @@
--- A fit with one seat more.
+-- A fit with one more seat.
 use Rattle.std.proofs.Common.{◌≡◌, ◌≢◌, ℕ, ◌+◌, ◌-◌, ◌*◌, ◌<◌, ◌≤◌, List, length, get_or, replicate, set, inl, inr, sym, ◌∙◌, arith}
 use Rattle.std.proofs.lemmas.Bool.{cases_eq}
 use Rattle.std.proofs.lemmas.Grind.{common_steps}
@@ -16,7 +16,7 @@ IsFit-none weights seats none = rw none (record {
   in_order = λ i j iw jw differ seated. absurd (omega (arith, seated, get_or-replicate {A = ℕ} (length weights) i 0 0 iw));
 })
 
--- a pair stays in order, once the seat was given to the greatest next one
+-- each pair is still in order after the seat was given where the next seat is worth most
 in_order-give : (weights seats : List ℕ) (house next : ℕ) → IsFit weights house seats →
     IsMostNext weights seats (length weights) next →
     (i j : ℕ) → i < length weights → j < length weights → i ≢ j →

@@ -8,7 +8,7 @@ use Rattle.zh_divisors.specs.Shares.{Apportionment, RoundsEach}
 use Rattle.zh_divisors.proofs.RatioLemmas.{lt_by_lt_le}
 use Rattle.zh_divisors.proofs.SumLemmas.{same-from_sum}
 
--- no weight has more seats in another fit while a second has fewer there
+-- it is impossible that one weight has more seats in another fit and a second weight has fewer there
 no_exchange : (weights seats others : List ℕ) (house : ℕ) → IsStrictFit weights house seats → IsFit weights house others →
     (i j : ℕ) → i < length weights → j < length weights →
     get_or seats i 0 < get_or others i 0 → get_or others j 0 < get_or seats j 0 → ⊥
@@ -54,7 +54,7 @@ no_strict_fit weights house seats tied strict =
     let there : IsStrictFit weights house tied.seats = rw same strict in
     omega (arith, there.in_order tied.from tied.to tied.from_within tied.to_within tied.differ tied.seated, tied.as_much)
 
--- the least number over 2 * seats - 1 lies above the divisor, and the greatest over 2 * seats + 1 below it
+-- what a last seat is worth lies above half the divisor, and what a next seat is worth lies below
 pub IsStrictFit-rounds : (weights : List ℕ) (house : ℕ) (shares : Apportionment) → length shares.seats ≡ length weights →
     sum shares.seats ≡ house → RoundsEach weights shares → IsStrictFit weights house shares.seats
 IsStrictFit-rounds weights house shares one_each add_up rounds = record {

@@ -1,4 +1,4 @@
--- The least and the greatest number that passes a test.
+-- The least and the greatest number that pass a test.
 use Rattle.std.proofs.Common.{◌≡◌, ℕ, zero, suc, ◌+◌, ◌<◌, ◌≤◌, ◌⊎◌, Bool, true, false, inl, inr, refl, sym, ◌∙◌, arith}
 use Rattle.std.proofs.lemmas.Bool.{cases_Bool, cases_eq, false≢true}
 use Rattle.zh_divisors.specs.Line.{least_passing, greatest_passing}
@@ -11,7 +11,7 @@ least_passing-from_1 passes (suc limit) =
       | inr fail ↦ rw fail (omega arith)
     ]
 
--- it passes, or is one beyond the limit
+-- the least one passes, or is one beyond the limit
 pub least_passing-at : (passes : ℕ → Bool) (limit : ℕ) →
     (passes (least_passing passes limit) ≡ true) ⊎ (least_passing passes limit ≡ limit + 1)
 least_passing-at passes zero = inr refl
@@ -24,7 +24,7 @@ least_passing-at passes (suc limit) =
       ]
     ]
 
--- nothing below it passes
+-- no number below it passes
 pub least_passing-below : (passes : ℕ → Bool) (limit y : ℕ) → 1 ≤ y → y < least_passing passes limit → passes y ≡ false
 least_passing-below passes zero y one below = absurd (omega arith)
 least_passing-below passes (suc limit) y one below =
@@ -38,7 +38,7 @@ least_passing-below passes (suc limit) y one below =
           ]
     ]
 
--- it passes, or is 0
+-- the greatest one passes, or is 0
 pub greatest_passing-at : (passes : ℕ → Bool) (limit : ℕ) → 1 ≤ greatest_passing passes limit →
     passes (greatest_passing passes limit) ≡ true
 greatest_passing-at passes zero one = absurd (omega arith)
@@ -48,7 +48,7 @@ greatest_passing-at passes (suc limit) one =
       | inr fail ↦ rw fail (greatest_passing-at passes limit (rw fail at one))
     ]
 
--- nothing above it passes, within the limit
+-- no number above it, within the limit, passes
 pub greatest_passing-above : (passes : ℕ → Bool) (limit y : ℕ) → greatest_passing passes limit < y → y ≤ limit → passes y ≡ false
 greatest_passing-above passes zero y above within = absurd (omega arith)
 greatest_passing-above passes (suc limit) y above within =

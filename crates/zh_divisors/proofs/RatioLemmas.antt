@@ -1,4 +1,4 @@
--- The order of ratios by cross products: a / p against b / q is a * q against b * p.
+-- The order of ratios by cross products: a / p compares with b / q as a * q with b * p.
 use Rattle.std.proofs.Common.{◌≡◌, ℕ, ◌+◌, ◌*◌, ◌<◌, ◌≤◌, ap, arith}
 use Rattle.std.proofs.Math.Nat.{mul-le-mul_left, mul-lt-mul_of_pos_left, le_of_mul-le-mul_left, lt_of_mul-lt-mul_left}
 
@@ -26,7 +26,7 @@ lt_by_lt_le a p b q c r positive h k =
     let both : q * (a * r) < q * (c * p) = omega arith in
     lt_of_mul-lt-mul_left q both
 
--- w * p < k * u and w * q ≤ k * v, added up
+-- the sum of w * p < k * u and w * q ≤ k * v
 pub below_sum : (w p q den k u v : ℕ) → p + q ≡ 2 * den → w * p < u * k → w * q ≤ v * k → 2 * (w * den) < k * (u + v)
 below_sum w p q den k u v halves strict weak =
     let whole : w * (p + q) ≡ w * (2 * den) = ap (λ n. w * n) halves in

@@ -15,7 +15,7 @@ All-le-sum xs most small = λ k d lt. omega (arith, get_or-le-sum_by (λ x. x) x
 pub sum-one_more : (xs : List ℕ) (i : ℕ) → i < length xs → sum (set xs i (get_or xs i 0 + 1)) ≡ sum xs + 1
 sum-one_more xs i lt = omega (arith, sum_by-set (λ x. x) xs i (get_or xs i 0 + 1) 0 lt)
 
--- numbers that are at most those of a list, with at least its sum, are that list
+-- numbers that are at most those of a list and have at least its sum are that list
 pub same-from_sum : (xs ys : List ℕ) → length ys ≡ length xs → ((k : ℕ) → k < length xs → get_or ys k 0 ≤ get_or xs k 0) →
     sum xs ≤ sum ys → ys ≡ xs
 same-from_sum [] [] same below least = refl

@@ -1,4 +1,4 @@
--- One weight more, in the search for the least last seat and for the greatest next one.
+-- One more weight in the search for the least last seat and for the greatest next seat.
 use Rattle.std.proofs.Common.{◌≡◌, ℕ, ◌+◌, ◌-◌, ◌*◌, ◌<◌, ◌≤◌, List, get_or, arith, below_more}
 use Rattle.std.proofs.Math.Nat.{le_refl}
 use Rattle.zh_divisors.specs.Worth.{IsLeastLast, IsMostNext}
@@ -45,7 +45,7 @@ IsLeastLast-keep weights seats n i so_far more = record {
   first = so_far.first;
 }
 
--- nobody below n has a seat
+-- no weight before n has a seat
 pub IsLeastLast-seat : (weights seats : List ℕ) (n : ℕ) → 1 ≤ get_or seats n 0 →
     ((k : ℕ) → k < n → get_or seats k 0 ≡ 0) → IsLeastLast weights seats (n + 1) n
 IsLeastLast-seat weights seats n seat none = record {

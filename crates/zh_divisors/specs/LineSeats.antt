@@ -3,15 +3,15 @@ use Rattle.std.specs.Prelude.{◌≡◌, ℕ, ◌+◌, ◌-◌, ◌*◌, ◌<◌
 use Rattle.zh_divisors.specs.Line.{IsMatrixLine}
 use Rattle.zh_divisors.specs.Sums.{sum_to}
 
--- the votes of a cell over this are what its next seat is worth: twice the signpost s + 1/2, times the other divisor
+-- a cell's next seat is worth its votes over this: the doubled signpost, 2 (s + 1/2), times the other divisor
 abbrev pub next_signpost : List ℕ → List ℕ → ℕ → ℕ
 next_signpost others seats k = slice_index others k * (2 * slice_index seats k + 1)
 
--- and over this what its last seat is worth: twice the signpost s - 1/2, times the other divisor
+-- a cell's last seat is worth its votes over this: the doubled signpost, 2 (s - 1/2), times the other divisor
 abbrev pub last_signpost : List ℕ → List ℕ → ℕ → ℕ
 last_signpost others seats k = slice_index others k * (2 * slice_index seats k - 1)
 
--- a line with seats, few enough for the products of votes and signposts to fit 128 bits
+-- a line with seats, few enough for the products of votes and signposts to fit into 128 bits
 pub record IsSmallLine (votes others seats : List ℕ) : Type 0 where
   pub line : IsMatrixLine votes others
   pub room : length votes ≤ length seats
@@ -23,14 +23,14 @@ pub record IsNextCell (votes others seats : List ℕ) (n j : ℕ) : Type 0 where
   pub most : (k : ℕ) → k < n →
       slice_index votes k * next_signpost others seats j ≤ slice_index votes j * next_signpost others seats k
 
--- so many seats, none of which would be worth more as the next of a cell
+-- this many seats are given, and none of them would be worth more as the next seat of a cell
 pub record AreGiven (votes others seats : List ℕ) (given : ℕ) : Type 0 where
   pub room : length votes ≤ length seats
   pub add_up : sum_to (length votes) (slice_index seats) ≡ given
   pub in_order : (i j : ℕ) → i < length votes → j < length votes → 1 ≤ slice_index seats i →
       slice_index votes j * last_signpost others seats i ≤ slice_index votes i * next_signpost others seats j
 
--- no last seat is worth less than that of i, which has votes
+-- no last seat is worth less than that of cell i, which has votes
 pub record IsLastCell (votes others seats : List ℕ) (i : ℕ) : Type 0 where
   pub within : i < length votes
   pub seated : 1 ≤ slice_index seats i

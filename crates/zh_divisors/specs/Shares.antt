@@ -12,15 +12,15 @@ pub record Apportionment : Type 0 where
   pub num : ℕ
   pub den : ℕ
 
--- each weight over num / den rounds to its seats, and lies on no half
+-- each weight over num / den rounds to its seats and is not on a half
 pub record RoundsEach (weights : List ℕ) (shares : Apportionment) : Type 0 where
   pub num_positive : 0 < shares.num
   pub den_positive : 0 < shares.den
   pub each : (k : ℕ) → k < length weights →
       Rounds (slice_index weights k * shares.den) shares.num (slice_index shares.seats k)
 
--- num and den are the sums of two weights and of their seats, not reduced: of the first whose last seat is worth least,
--- and of the first whose next seat is worth most
+-- num is the sum of two weights and den the sum of their seats, not reduced: these are the first weight whose last seat is worth
+-- least, and the first weight whose next seat is worth most
 pub record HasDivisor (weights : List ℕ) (shares : Apportionment) : Type 0 where
   pub last : ℕ
   pub next : ℕ
@@ -29,8 +29,8 @@ pub record HasDivisor (weights : List ℕ) (shares : Apportionment) : Type 0 whe
   pub num_is : shares.num ≡ slice_index weights last + slice_index weights next
   pub den_is : shares.den ≡ slice_index shares.seats last + slice_index shares.seats next
 
--- The seats of the house in proportion to the weights, with their divisor, or a tie: memory aside, exactly one of the two
--- answers is possible.
+-- The seats of the house in proportion to the weights, with their divisor, or a tie: unless memory is refused, exactly one of the
+-- two answers is possible.
 pub record Apportions (weights : List ℕ) (house : ℕ) (result : Result Apportionment ShareFault) : Type 0 where
   pub seats : IfOk result (λ shares. IsStrictFit weights house shares.seats)
   pub divisor : IfOk result (HasDivisor weights)

@@ -1,4 +1,4 @@
-//! The divisor method with standard rounding (Sainte-Laguë, Webster): seats given one by one.
+//! The divisor method with standard rounding (Sainte-Laguë, Webster): seats are given one by one.
 ghost use Rattle.std.specs.Prelude.{◌<◌, ◌≤◌, Any, IfOk, ◌≡◌, ◌+◌, ◌-◌, ◌*◌, ◌^◌, ◌↔◌, IsTrue, length, slice_index, sum};
 ghost use Rattle.zh_divisors.specs.Claims.{TellClaims};
 ghost use Rattle.zh_divisors.specs.Fit.{IsFit, NextAgainstLast};
@@ -13,9 +13,10 @@ use std::alloc::{AllocError, Global};
 
 /// The seats of a house in proportion to weights, rounded to the nearest (GPR sections 88 and 103).
 ///
-/// The divisor is shown as the sum of two weights over the sum of their seats, not reduced: of the weight
-/// whose last seat is worth least, and of the weight whose next seat would be worth most. `Tied` is returned
-/// if no divisor rounds without a half, and `Memory` can come in place of every other answer.
+/// The divisor is given as a fraction that is not reduced: the sum of two weights over the sum of their seats.
+/// These are the first weight whose last seat is worth least, and the first weight whose next seat would be worth
+/// most. `Tied` is returned if no divisor gives seats that add up to the house without a quotient on a half.
+/// `Memory` can be returned in place of any other answer.
 pub fn apportion(alloc: Global, weights: &Weights, house: u32) -> Result<Shares, ShareFault>
     requires at_least_one { 1 ≤ house }
     requires at_most_400 { house ≤ 400 }
@@ -34,8 +35,8 @@ pub fn apportion(alloc: Global, weights: &Weights, house: u32) -> Result<Shares,
     Ok(Shares::new(seats, num, den))
 }
 
-/// Gives each seat of the house to the first weight to which it is worth most. At a tie the seats fit,
-/// and are one of several that do.
+/// Gives the seats of the house one by one, each to the first weight to which it is worth most. At a tie the seats
+/// are one of several fits.
 fn give_seats(alloc: Global, weights: &[u64], house: u32) -> Result<Vec<u32>, AllocError>
     requires limits { AreWeights weights.now }
     requires house { house ≤ 400 }
@@ -49,7 +50,7 @@ fn give_seats(alloc: Global, weights: &[u64], house: u32) -> Result<Vec<u32>, Al
     Ok(seats)
 }
 
-/// A weight times an odd number of half seats.
+/// A weight times a number of half seats.
 fn times(weight: u64, halves: u32) -> u64
     requires weight { weight ≤ 10 ^ 14 }
     requires halves { halves ≤ 801 }
@@ -69,7 +70,7 @@ fn next_is_worth_more(weights: &[u64], seats: &[u32], j: usize, k: usize) -> boo
     times(weights[k], 2 * seats[j] + 1) < times(weights[j], 2 * seats[k] + 1)
 }
 
-/// Whether `i` has a seat, and `k` has none or has a last seat that is worth more than that of `i`.
+/// Whether `i` has a seat, and its last seat is worth less than that of `k` if `k` has one.
 fn last_is_worth_less(weights: &[u64], seats: &[u32], i: usize, k: usize) -> bool
     requires small { AreSmall weights.now seats.now }
     requires i { i < length weights.now }
@@ -95,7 +96,7 @@ fn next_is_worth_less(weights: &[u64], seats: &[u32], i: usize, j: usize) -> boo
     times(weights[j], 2 * seats[i] - 1) < times(weights[i], 2 * seats[j] + 1)
 }
 
-/// Whether the next seat of `k`, or its last one, is worth as much as the last seat of `i`.
+/// Whether the next seat or the last seat of `k` is worth as much as the last seat of `i`.
 fn is_worth_as_much(weights: &[u64], seats: &[u32], i: usize, k: usize) -> bool
     requires small { AreSmall weights.now seats.now }
     requires i { i < length weights.now }
@@ -111,7 +112,7 @@ fn is_worth_as_much(weights: &[u64], seats: &[u32], i: usize, k: usize) -> bool
     seats[k] > 0 && claim == times(weights[i], 2 * seats[k] - 1)
 }
 
-/// The first whose next seat is worth most.
+/// The first weight whose next seat is worth most.
 fn most_next(weights: &[u64], seats: &[u32]) -> usize
     requires not_empty { 1 ≤ length weights.now }
     requires small { AreSmall weights.now seats.now }
@@ -126,7 +127,7 @@ fn most_next(weights: &[u64], seats: &[u32]) -> usize
     most
 }
 
-/// The first whose last seat is worth least.
+/// The first weight whose last seat is worth least.
 fn least_last(weights: &[u64], seats: &[u32]) -> usize
     requires small { AreSmall weights.now seats.now }
     requires seated { 0 < sum seats.now }
@@ -141,7 +142,7 @@ fn least_last(weights: &[u64], seats: &[u32]) -> usize
     least
 }
 
-/// For each weight whether it has the same claim as another, so that the seats are tied between them.
+/// For each weight, whether it has the same claim as another, so that the seats are tied between them.
 pub fn same_claims(alloc: Global, weights: &Weights, house: u32) -> Result<Vec<bool>, AllocError>
     requires at_least_one { 1 ≤ house }
     requires at_most_400 { house ≤ 400 }

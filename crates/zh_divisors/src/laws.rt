@@ -1,12 +1,12 @@
-//! What is true of every apportionment, and of every line.
+//! What is true of every apportionment and of every line.
 ghost use Rattle.std.specs.Prelude.{◌≡◌, ℕ, ◌<◌, ◌≤◌, Any, List, length, sum};
 ghost use Rattle.zh_divisors.specs.Fit.{IsFit, IsStrictFit, IsTied};
 ghost use Rattle.zh_divisors.specs.Line.{IsGreatestDivisor, IsLeastDivisor, greatest_divisor, least_divisor};
 ghost use Rattle.zh_divisors.specs.Shares.{Apportionment, RoundsEach};
 
-/// A strict fit is the only fit, and is there exactly where some divisor rounds without a half.
+/// A strict fit is the only fit. It exists exactly if some divisor gives seats without a quotient on a half.
 ///
-/// What is tied has no strict fit, and a fit of what is not tied is strict.
+/// If the seats are tied, there is no strict fit. If they are not tied, every fit is strict.
 pub fn one_fit()
     ensures only { (weights : List ℕ) (house : ℕ) (seats others : List ℕ) →
         IsStrictFit weights house seats → IsFit weights house others → others ≡ seats }
@@ -15,7 +15,7 @@ pub fn one_fit()
     ensures strict { (weights : List ℕ) (house : ℕ) (seats : List ℕ) →
         IsFit weights house seats → ¬ IsTied weights house → IsStrictFit weights house seats }
 
-    // Seats that follow from any divisor at all, with no quotient on a half.
+    // Seats that follow from any divisor, without a quotient on a half, are a strict fit.
     ensures rounded { (weights : List ℕ) (house : ℕ) (shares : Apportionment) →
         length shares.seats ≡ length weights → sum shares.seats ≡ house →
         RoundsEach weights shares → IsStrictFit weights house shares.seats }
@@ -24,7 +24,7 @@ pub fn one_fit()
         (shares : Apportionment) × (shares.seats ≡ seats) × RoundsEach weights shares }
 {}
 
-/// A line has both divisors of the rule, each only once, and they are those of the definition.
+/// Both divisors of the rule for a line exist and are unique, and the definition computes them.
 pub fn line_rule()
     ensures least { (n : ℕ) (votes others : ℕ → ℕ) (target : ℕ) →
         ((i : ℕ) → i < n → 1 ≤ others i) →

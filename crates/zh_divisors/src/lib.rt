@@ -1,11 +1,11 @@
 //! Seats in proportion to weights, and the divisor of a line of a matrix of votes.
 //!
-//! Each weight is divided by one divisor and rounded to the nearest whole number, so that the seats add
-//! up to the house. The constituencies get their seats so (GPR section 88), and the groups theirs in the
-//! whole canton (GPR section 103). Where no divisor does so without a half, the seats are tied.
+//! Each weight is divided by the same divisor and rounded to the nearest whole number, so that the seats add up to the
+//! house. The constituencies get their seats in this way (GPR section 88), and so do the groups in the whole canton (GPR
+//! section 103). If no divisor does this without a quotient on a half, the seats are tied.
 //!
-//! In a matrix each row and each column has a divisor of its own (GPR section 104). `line` gives one of
-//! them a divisor that suits its total, while those that cross it stay.
+//! In a matrix each row and each column has its own divisor (GPR section 104). `line` gives one row or column a divisor
+//! that suits its total, while the divisors of the lines that cross it stay the same.
 #![tactic(auto)]
 
 pub use apportionment::{apportion, same_claims};

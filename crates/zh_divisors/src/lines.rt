@@ -1,10 +1,10 @@
-//! The divisor of a line of a matrix, by the divisor method with standard rounding: its seats are given one by one.
+//! The divisor of a line of a matrix, by the divisor method with standard rounding: the line's seats are given one by one.
 ghost use Rattle.std.specs.Prelude.{◌≡◌, ◌+◌, ◌-◌, ◌*◌, ◌/◌, ◌^◌, ◌≤◌, length, slice_index, ◌<◌, ◌↔◌, IsTrue};
 ghost use Rattle.zh_divisors.specs.Line.{IsMatrixLine, clamped, line_divisor};
 ghost use Rattle.zh_divisors.specs.LineSeats.{AreGiven, IsLastCell, IsNextCell, IsSmallLine, last_signpost, next_signpost};
 ghost use Rattle.zh_divisors.specs.Sums.{sum_to};
 
-/// The least whole number above the quotient of twice the votes over a signpost.
+/// The least whole number above 2 * `votes` * 10^12 / `signpost`.
 fn least_above(votes: u64, signpost: u128) -> u128
     requires votes { votes ≤ 10 ^ 14 }
     requires positive { 1 ≤ signpost }
@@ -13,7 +13,7 @@ fn least_above(votes: u64, signpost: u128) -> u128
     2 * (u128::from(votes) * 1_000_000_000_000) / signpost + 1
 }
 
-/// The greatest whole number below it.
+/// The greatest whole number below 2 * `votes` * 10^12 / `signpost`.
 fn greatest_below(votes: u64, signpost: u128) -> u128
     requires some { 1 ≤ votes }
     requires votes { votes ≤ 10 ^ 14 }
@@ -23,7 +23,7 @@ fn greatest_below(votes: u64, signpost: u128) -> u128
     (2 * (u128::from(votes) * 1_000_000_000_000) - 1) / signpost
 }
 
-/// A divisor held within 1 and the most.
+/// A divisor clamped to the range from 1 to `most`.
 fn hold(divisor: u128, most: u64) -> u64
     requires { 1 ≤ most }
     ensures { result ≡ clamped most divisor }
@@ -33,10 +33,10 @@ fn hold(divisor: u128, most: u64) -> u64
 
 /// The divisor of a row or a column of votes, in millionths, from 1 to `most`.
 ///
-/// `others` are the divisors, in millionths, of the lines that cross it, and `target` the seats that it is
-/// to get. It is the mean, rounded down, of the least divisor under which the quotients, rounded half up,
-/// add up to at most the target, and of the greatest one under which they add up to at least the target,
-/// rounded half down, or 0; and is then held within the limits (docs/DEFINITIONS.md).
+/// `others` are the divisors, in millionths, of the lines that cross it, and `target` is the number of seats that it is
+/// to get. The divisor is the mean of two bounds, rounded down and then clamped (docs/DEFINITIONS.md). One bound is the
+/// least divisor under which the quotients, rounded half up, add up to at most the target. The other is the greatest
+/// divisor under which the quotients, rounded half down, add up to at least the target, or 0 if there is none.
 pub fn line(votes: &[u64], others: &[u64], target: u32, most: u64) -> u64
     requires line { IsMatrixLine votes.now others.now }
     requires at_least_one { 1 ≤ target }
@@ -52,7 +52,7 @@ pub fn line(votes: &[u64], others: &[u64], target: u32, most: u64) -> u64
     hold((least + greatest) / 2, most)
 }
 
-/// The signpost that the votes of a cell are divided by for its next seat.
+/// The doubled signpost of a cell's next seat, times the divisor of the line that crosses there, in millionths.
 pub(crate) fn next_signpost(others: &[u64], seats: &[u32], cell: usize) -> u128
     requires other { cell < length others.now }
     requires seat { cell < length seats.now }
@@ -64,7 +64,7 @@ pub(crate) fn next_signpost(others: &[u64], seats: &[u32], cell: usize) -> u128
     u128::from(others[cell]) * (2 * u128::from(seats[cell]) + 1)
 }
 
-/// The signpost that they are divided by for its last seat.
+/// The doubled signpost of a cell's last seat, times the divisor of the line that crosses there, in millionths.
 pub(crate) fn last_signpost(others: &[u64], seats: &[u32], cell: usize) -> u128
     requires other { cell < length others.now }
     requires seat { cell < length seats.now }
@@ -111,7 +111,7 @@ pub(crate) fn next_cell(votes: &[u64], others: &[u64], seats: &[u32]) -> usize
     next
 }
 
-/// Gives each seat to a cell to which it is worth most; the cell that got the last one is returned.
+/// Gives the seats one by one, each to a cell to which it is worth most. Returns the cell that got the last seat.
 pub(crate) fn give_one_by_one(
     votes: &[u64],
     others: &[u64],

@@ -1,4 +1,4 @@
-//! The shares of seats that weights get, and why they get none.
+//! The result of an apportionment: the seats of each weight, or why there are none.
 ghost use Rattle.std.specs.Prelude.{◌≡◌};
 ghost use Rattle.zh_divisors.specs.declared.shares.ShareFault.TheVariants.{Memory};
 
@@ -7,7 +7,7 @@ use std::marker::Model;
 use thiserror::Error;
 
 /// Why an apportionment gives no seats: an allocation was refused, or a seat is worth as much to two weights,
-/// so that no divisor rounds without a half.
+/// so that no divisor gives seats without a quotient on a half.
 #[derive(Clone, Copy, Debug, PartialEq, Eq, Error)]
 pub enum ShareFault {
     #[error("out of memory")]
@@ -24,7 +24,7 @@ impl From<AllocError> for ShareFault {
     }
 }
 
-/// The seats of an apportionment, and the divisor `num / den` that gives them.
+/// The seats of an apportionment and the divisor `num / den` that gives them.
 ///
 /// The fraction is not reduced: `num` is from 1 to 2 * 10^14, `den` from 1 to 800.
 #[derive(Drop)]
@@ -56,14 +56,14 @@ impl Shares {
         self.seats.as_slice()
     }
 
-    /// What stands above the line in the divisor.
+    /// The numerator of the divisor.
     pub fn num(&self) -> u64
         ensures { result ≡ self.now.num }
     {
         self.num
     }
 
-    /// What stands below the line in the divisor.
+    /// The denominator of the divisor.
     pub fn den(&self) -> u32
         ensures { result ≡ self.now.den }
     {

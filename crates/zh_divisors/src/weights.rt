@@ -1,10 +1,10 @@
-//! The weights among which seats are shared out.
+//! The weights to which seats are apportioned.
 ghost use Rattle.std.specs.Prelude.{◌≡◌, ◌^◌, ◌≤◌, All, IfOk, length};
 
 use std::alloc::{AllocError, Global};
 use std::marker::Model;
 
-/// The weights of an apportionment, as persons or voter sums: 1 to 32 of them, each at most 10^14.
+/// The weights of an apportionment, for example persons or voter sums: 1 to 32 of them, each at most 10^14.
 #[derive(Drop)]
 pub struct Weights {
     numbers: Vec<u64>,
@@ -24,7 +24,7 @@ impl Model for Weights {
 impl Weights {
     ghost use Rattle.zh_divisors.specs.Weights.{AreWeights};
 
-    /// The weights that these numbers are.
+    /// Takes these numbers as weights.
     pub fn new(alloc: Global, numbers: &[u64]) -> Result<Self, AllocError>
         requires not_empty { 1 ≤ length numbers.now }
         requires at_most_32 { length numbers.now ≤ 32 }

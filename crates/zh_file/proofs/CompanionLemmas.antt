@@ -1,4 +1,4 @@
--- What becomes of a companion that may be empty.
+-- What becomes of a companion that can be empty.
 use Rattle.std.proofs.Common.{◌≡◌, ◌∙◌, ◌∷◌, ◌≤◌, ℕ, List, [], length, Option, Some, None, Result, Ok, Err, IfOk, refl, sym, ap, subst, inl, inr, ⊎_elim, arith}
 use Rattle.std.specs.Prelude.{◌⊎◌, ◌++◌, IfErr, IfSome, codes}
 use Rattle.std.specs.declared.io.Error.{Error}
@@ -50,7 +50,7 @@ module _ {N : Type 0} (bytes : N → List ℕ) (path name : List ℕ) (companion
   look_failed says error setback old new w x y asks seen failed =
       name_failed setback old new y (named w x asks ∙ ap (λ (p : Places). companion_of p path) (sym seen.same)) failed
 
-  -- and this was found
+  -- this was found there
   module _ (found : Found) (w x y : Folders) (asks : Asks w x) (seen : LooksAt (λ (places : Places). IsKind (found_at places name)) (Ok found) x y) where
     same : y.places ≡ w.places
     same = seen.same ∙ asks.1.same
@@ -68,7 +68,7 @@ module _ {N : Type 0} (bytes : N → List ℕ) (path name : List ℕ) (companion
         let two = seen.counted.failed in
         record { failed = omega (arith, one, two); refused = seen.counted.refused ∙ asks.1.counted.refused }
 
-    -- it is no empty file, and stays
+    -- it is not an empty file, and stays
     pub left_alone : LeavesCompanion path w y
     left_alone = record {
       clears = record {
@@ -84,7 +84,7 @@ module _ {N : Type 0} (bytes : N → List ℕ) (path name : List ℕ) (companion
         let here : w.places.stands (companion_of w.places path) ≡ file [] = ap (λ (p : Places). p.stands (companion_of p path)) (sym same) ∙ empty in
         differs (file_empty found (subst (λ (s : Standing). IsKind s found) here kind)))
 
-    -- it is one, and was to be removed
+    -- it is an empty file, and a call was to remove it
     module _ {T : Type 0} (result : Result T Error) (z : Folders) (empty : found ≡ kinds.File 0) (acts : ActsAt (Removes name) result y z) where
       was_empty : w.places.stands (companion_of w.places path) ≡ file []
       was_empty = empty_file (w.places.stands (companion_of w.places path)) (subst (λ (f : Found). IsKind (w.places.stands (companion_of w.places path)) f) empty kind)
@@ -121,7 +121,7 @@ module _ {N : Type 0} (bytes : N → List ℕ) (path name : List ℕ) (companion
           by (Ok done) gone failed = inl (λ empty. let wrong : nothing ≡ file [] = sym gone ∙ ap z.places.stands there ∙ empty in absurd cc)
           by (Err error) gone failed = name_failed (asked_with error) old new z there failed
 
--- of what may be known
+-- for two values that can be unknown: a property of one of them, added to their relation
 pub with_some : {A : Type 0} (Q : A → Type 0) (P : A → A → Type 0) (a b : Option A) → IfSome a Q → IfKnown P a b → IfKnown (λ x y. Q x × P x y) a b
 with_some Q P None b q p = p
 with_some Q P (Some x) None q p = p
@@ -142,7 +142,7 @@ pub some_all : {A : Type 0} (Q : A → Type 0) (a : Option A) → ((x : A) → Q
 some_all Q None all = tt
 some_all Q (Some x) all = all x
 
--- where the call for its name failed
+-- the call for the name of the companion failed
 pub name_unknown : (path : List ℕ) (error : Error) (old new : List FailedCall) → new ≡ record { path = path; setback = asked_with error } ∷ old → (now : Folders) → IsRidOfCompanion path old new now
 name_unknown path error old new is now = inr (record {
   call = record { path = path; setback = asked_with error };
@@ -158,7 +158,7 @@ failed_last path (Err error) old mid new goes is = subst (λ (calls : List Faile
     (failed_within (record { path = path; setback = asked_with error }) old mid (record { path = path; setback = asked_with error } ∷ mid) (record { path = path; setback = asked_with error } ∷ mid)
     goes (goes_itself (record { path = path; setback = asked_with error } ∷ mid)) (just_failed (record { path = path; setback = asked_with error }) mid))
 
--- calls before it and after it
+-- the same over calls before and after
 cleared_within : (path : List ℕ) (a b c d : List FailedCall) (now : Folders) → ForgetsNone a b → ForgetsNone c d → IsRidOfCompanion path b c now → IsRidOfCompanion path a d now
 cleared_within path a b c d now one two cleared = ⊎_elim
     (λ none. inl none)

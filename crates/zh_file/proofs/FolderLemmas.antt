@@ -22,7 +22,7 @@ module _ {A : Type 0} where
   map_known P R (Some x) None f by = by
   map_known P R (Some x) (Some y) f by = f x y by
 
-  -- one call after the next
+  -- one call followed by another
   pub chain : (P Q R : A → A → Type 0) (old mid new : Option A) → ((x y z : A) → P x y → Q y z → R x z) → IfKnown P old mid → IfKnown Q mid new → IfKnown R old new
   chain P Q R None mid new f one next = subst (λ (k : Option A). IfKnown Q k new) one next
   chain P Q R (Some x) None new f one next = absurd one
@@ -37,12 +37,12 @@ module _ {A : Type 0} where
   chain_three P Q S R (Some w) (Some x) (Some y) None f one two three = three
   chain_three P Q S R (Some w) (Some x) (Some y) (Some z) f one two three = f w x y z one two three
 
--- the fault of a call at a path is memory, or the device with its cause
+-- the fault for an error at a path is memory, or the device with its cause
 pub of_kind : (P : FileFault → Type 0) → P faults.Memory → (kind : ErrorKind) → P (faults.Device (cause_of kind)) → P (fault_of_kind kind)
 of_kind P memory kinds.OutOfMemory device = memory
 of_kind P memory kind device = device
 
--- that of a file that was found says nothing of the path
+-- the fault for an error of a file that was found says nothing about the path
 pub of_found : (P : FileFault → Type 0) → P faults.Memory → ((cause : FileCause) → IsSilent cause → P (faults.Device cause)) → (kind : ErrorKind) → P (fault_of_found kind)
 of_found P memory device kinds.OutOfMemory = memory
 of_found P memory device kinds.NotFound = device causes.Failed tt
@@ -55,7 +55,7 @@ silent_at standing causes.Folder is = absurd is
 silent_at standing causes.Special is = absurd is
 silent_at standing cause is = tt
 
--- what stands there, and was not made, stood there before
+-- what is there, and was not made, was there before
 still : (old new wanted : Standing) → (file [] ≡ wanted → ⊥) → IsSameOrMade old new → new ≡ wanted → old ≡ wanted
 still old new wanted differs made is = ⊎_elim (λ same. sym same ∙ is) (λ it. absurd (differs (sym it.1 ∙ is))) made
 
@@ -74,7 +74,7 @@ no_file_before old new made is = ⊎_elim
 pub same_companion : (old new : Places) (path : List ℕ) → new.leads ≡ old.leads → companion_of new path ≡ companion_of old path
 same_companion old new path same = ap (λ (f : List ℕ → List ℕ). f path ++ codes "-wal") same
 
--- a companion's place is not that of its disk
+-- the place of a companion is not the place of its disk
 pub longer : (xs : List ℕ) → (xs ≡ xs ++ codes "-wal" → ⊥)
 longer xs is = let size : length xs ≡ length xs + 4 = ap length is ∙ length-append xs (codes "-wal") in absurd (omega (arith, size))
 
@@ -87,7 +87,7 @@ bare_both x y z one next = ⊎_elim
     (λ bare. ⊎_elim (λ was. inr (subst IsBare was bare.0, bare.1)) (λ before. inr (before.0, bare.1)) one)
     next
 
--- the lock, and then the look at the companion
+-- the lock, followed by the look at the companion
 pub lock_touches : (path : List ℕ) (x y z : Places) → MakesBoth path x y → ClearsCompanion path y z → TouchesOnly path x z × (found_at z path ≡ found_at y path)
 lock_touches path x y z makes clears =
     let at : companion_of y path ≡ companion_of x path = same_companion x y path makes.leads in
@@ -142,7 +142,7 @@ same_touches path x y same = record {
 pub same_found : (path : List ℕ) (x y : Places) → y ≡ x → found_at y path ≡ found_at x path
 same_found path x y same = ap (λ (p : Places). found_at p path) same
 
--- a trail that begins with bytes has them
+-- a trail that begins with these bytes has them now
 pub ok_bytes : {T : Type 0} (trail : T → Trail) (bytes : List ℕ) (result : Result T FileFault) → IfOk result (λ d. trail d ≡ fresh_trail bytes)
     → IfOk result (λ d. (trail d).now.bytes ≡ bytes)
 ok_bytes trail bytes (Ok d) is = ap (λ (t : Trail). t.now.bytes) is

@@ -1,4 +1,4 @@
--- What a stop may have left of a locked file, over its calls.
+-- What a stop can have left of a locked file, over several calls.
 use Rattle.std.proofs.Common.{◌≡◌, ◌+◌, ◌≤◌, ℕ, List, [], Option, Some, None, refl, sym, subst, inl, ⊎_elim, arith}
 use Rattle.std.specs.Prelude.{IfOk, IfSome, Result, Ok, Err}
 use Rattle.std.specs.declared.io.Error.{Error}
@@ -10,7 +10,7 @@ use Rattle.zh_file.specs.Locked.{IsLeftAt, IsLeftOf, IsNotedCall, IsShort, Leave
 use Rattle.zh_film.specs.Past.{items}
 use Rattle.zh_file.specs.declared.stored.locked.Locked.{Locked}
 
--- what asks changes nothing that a stop leaves
+-- a call that only asks does not change what a stop can leave
 pub stay_step : (P Q : List ℕ → Type 0) → Follows Stays P Q → (c : List ℕ) → Q c → P c
 stay_step P Q by c left = let it = by c left in subst P (sym it.2) it.1
 
@@ -24,7 +24,7 @@ pub torn_short : (at n : ℕ) (d c : List ℕ) → at + n ≤ disk_length → Is
 torn_short at n d c fits short torn = let most = torn.no_longer in omega (arith, most, short, fits)
 
 module _ {D T : Type 0} (g : Ghosts D) (result : Result T Error) (old new : Locked D) where
-  -- a call that asks
+  -- a call that only asks
   pub asked_leaves : IsNotedCall g Stays result old new → LeavesNoMore (IsLeftOf g old) (IsLeftOf g new)
   asked_leaves call = λ c left. (
     call.kept left.0,
@@ -34,7 +34,7 @@ module _ {D T : Type 0} (g : Ghosts D) (result : Result T Error) (old new : Lock
         left.1,
   )
 
-  -- one that leaves nothing longer than a disk
+  -- a call after which a stop leaves nothing longer than a disk
   pub short_call : (step : List ℕ → List ℕ → Type 0) → ((d c : List ℕ) → IsShort d → step d c → IsShort c) → IsNotedCall g step result old new
       → LeavesOnly g IsShort old → LeavesOnly g IsShort new
   short_call step keeps call before = λ c left. ⊎_elim
@@ -43,19 +43,19 @@ module _ {D T : Type 0} (g : Ghosts D) (result : Result T Error) (old new : Lock
       left.1
 
 module _ {D : Type 0} (g : Ghosts D) where
-  -- a file that was just locked leaves what it holds
+  -- a stop leaves what a file holds that was just locked
   pub begun_leaves : (l : Locked D) → items l.before ≡ [] → Only (g.seen l.file) (g.may_leave l.file) → LeavesOnly g (IsAsFound (g.seen l.file)) l
   begun_leaves l begun synced = λ c left. ⊎_elim
       (λ now. synced c now)
       (λ past. absurd (subst (λ (ds : List D). IsLeftAt g.may_leave ds c) begun past))
       left.1
 
-  -- what stays so
+  -- the same after calls that only ask
   pub kept_leaves : (found : List ℕ) (old new : Locked D) → LeavesNoMore (IsLeftOf g old) (IsLeftOf g new) → LeavesOnly g (IsAsFound found) old
       → LeavesOnly g (IsFilling found) new
   kept_leaves found old new no_more before = λ c left. inl (before c (no_more c left))
 
--- where the bytes that were found are known
+-- the bytes that were found are those that are known, if any are
 known_found : (IsLeft : List ℕ → List ℕ → Type 0) (known : Option (List ℕ)) (found c : List ℕ) → IfSome known (λ bytes. found ≡ bytes) → IsLeft found c
     → IfSome known (λ bytes. IsLeft bytes c)
 known_found IsLeft None found c is left = tt
@@ -70,7 +70,7 @@ pub ok_map : {T E : Type 0} (P Q : T → Type 0) (result : Result T E) → ((d :
 ok_map P Q (Ok d) f by = f d by
 ok_map P Q (Err fault) f by = tt
 
--- what is left of a file whose bytes are those at its path, where these are known
+-- what is left of a file whose bytes are those at its path, if these are known
 pub found_at_path : (IsLeft : List ℕ → List ℕ → Type 0) (at mid : List ℕ → Option (List ℕ)) (path found : List ℕ) → mid ≡ at
     → IfSome (mid path) (λ bytes. found ≡ bytes) → (c : List ℕ) → IsLeft found c → IfSome (at path) (λ bytes. IsLeft bytes c)
 found_at_path IsLeft at mid path found same known c left =

@@ -1,4 +1,4 @@
--- The same of a disk that is made where there is none.
+-- What opening a disk leaves, step by step, if the disk is made where there is none.
 use Rattle.std.proofs.Common.{◌≡◌, ◌∙◌, ◌<◌, ℕ, List, [], ◌∷◌, length, Bool, IsTrue, Option, Some, None, Result, Ok, Err, IfOk, IfErr, refl, sym, ap, subst, inl, inr, ⊎_elim, arith}
 use Rattle.std.specs.Prelude.{◌≢◌, ◌⊎◌, bytes_eq}
 use Rattle.std.proofs.lemmas.Bool.{cases_Bool}
@@ -29,7 +29,7 @@ none_if_zero : (xs : List ℕ) → 0 ≡ length xs → xs ≡ []
 none_if_zero [] is = refl
 none_if_zero (a ∷ more) is = absurd (omega (arith, is))
 
--- what stood there as a file with a byte was not made
+-- a file that is not empty was not made just now
 not_made : (old new : Standing) (n : ℕ) → n ≢ 0 → IsSameOrMade old new → IsLength new n → new ≡ old
 not_made old new n some made is = ⊎_elim
     (λ same. same)
@@ -48,7 +48,7 @@ unmade_places path x y makes same = record {
       (cases_Bool (bytes_eq place (x.leads path)));
 }
 
--- the bytes of a file are those from before it was made, if it was
+-- the bytes of a file are the same as before it was made, if it was made
 bytes_from : (old new : Standing) (bytes : List ℕ) → IsSameOrMade old new → new ≡ file bytes → bytes ≡ bytes_of old
 bytes_from old new bytes made is = ⊎_elim
     (λ same. sym (ap bytes_of (sym same ∙ is)))
@@ -67,7 +67,7 @@ was_file old new bytes made is wrong = ⊎_elim
     wrong)
     made
 
--- a disk over a file that had these bytes, and was filled where it had none
+-- a disk over a file that had these bytes, and was filled if it was empty
 pub begins_with : (bytes before now : List ℕ) (begun : Trail) → before ≡ bytes → (before ≡ [] → IsZeroed now)
     → (before ≡ []) ⊎ (now ≡ before) → begun ≡ fresh_trail now → BeginsWith bytes begun
 begins_with [] before now begun none filled same is =
@@ -78,7 +78,7 @@ begins_with (byte ∷ bytes) before now begun was filled same is = ⊎_elim
     (λ kept. is ∙ ap fresh_trail (kept ∙ was))
     same
 
--- the standing of the path of a disk once it is locked, from that before it was made
+-- what is at the path of a disk once it is locked, by what was there before it was made
 module _ (path : List ℕ) where
   twice : (w x y mid : Places) → Makes path w x → y ≡ x → IsSameOrMade (found_at y path) (found_at mid path) → IsSameOrMade (found_at w path) (found_at mid path)
   twice w x y mid makes same made =
@@ -168,7 +168,7 @@ module _ {T D X : Type 0} (is_clean : D → Bool) (failures : D → ℕ) (seen :
   none_refused : z.refused ≡ w.refused
   none_refused = takes.locked.1.refused ∙ measures.goes.refused ∙ changes.counted.refused
 
-  -- the file that was locked was filled or not, and a call of it failed
+  -- a call of the locked file failed while it was filled
   pub unfilled : (error : Error) (g : D) → (0 < failures g) → OpensOrMakesDisk {T = T} (HasFailed is_clean failures) path history (Err (fault_of_found (error_kind error))) w z
   unfilled error g failed = record {
     touches = all_touched;
@@ -207,7 +207,7 @@ module _ {T D X : Type 0} (is_clean : D → Bool) (failures : D → ℕ) (seen :
       all_ok (Ok d) = none_refused
       all_ok (Err fault) = tt
 
-      -- the length that was measured is that of the file that was locked, if it stood there
+      -- the length that was measured is that of the file that was locked, if it was there before
       there : IsLength (found_at y.places path) n
       there = subst (λ (s : Standing). IsLength s n) (sym (same_found path x.places y.places measures.same)) measures.length
 
@@ -231,7 +231,7 @@ module _ {T D X : Type 0} (is_clean : D → Bool) (failures : D → ℕ) (seen :
       causes (Ok d) by = tt
       causes (Err fault) by = start_cause {T = T} is_clean failures seen path (λ d. (history d).trail.now.bytes) IsNoStart g w z none_refused long fault by
 
--- the same of what may be known
+-- the same for what is known of a folder, if anything is
 pub known_unmade : {T : Type 0} (X Failed : Type 0) (path : List ℕ) (history : T → History) (a b : Option Folders) (error : Error)
     → IfKnown (ActsAt {T = X} (Makes path) (Err error)) a b → SaysWhy {T = X} a path (Err error)
     → IfKnown (OpensOrMakesDisk Failed path history (Err (fault_of_kind (error_kind error)))) a b

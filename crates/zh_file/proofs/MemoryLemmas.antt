@@ -16,7 +16,7 @@ use Rattle.zh_file.specs.MemoryFolder.{PutsAt, disk_in, folders_of, standing_at}
 use Rattle.zh_file.specs.declared.memory_folder.MemoryFolder.{MemoryFolder}
 use Rattle.zh_file.proofs.FolderLemmas.{longer}
 
--- bytes that were written into an empty file
+-- an empty file into which bytes were written holds these bytes
 pub written_whole : (bytes old new : List ℕ) → old ≡ [] → Torn 0 (length bytes) old new → (0 < length bytes → Holds new 0 bytes) → new ≡ bytes
 written_whole bytes old new none torn holds =
     let empty : length old ≡ 0 = ap length none in
@@ -32,7 +32,7 @@ written_whole bytes old new none torn holds =
 made_bytes : (old new : Standing) → IsSameOrMade old new → bytes_of new ≡ bytes_of old
 made_bytes old new made = ⊎_elim (λ same. ap bytes_of same) (λ it. ap bytes_of it.1 ∙ sym (ap bytes_of it.0)) made
 
--- at the path, or elsewhere
+-- a place is the path, or it is not
 at_or_off : (P : List ℕ → Type 0) (path place : List ℕ) → P path → (place ≢ path → P place) → P place
 at_or_off P path place here off = ⊎_elim
     (λ is. subst P (sym ((bytes_eq-Decides place path).0 is)) here)
@@ -40,7 +40,7 @@ at_or_off P path place here off = ⊎_elim
     (cases_Bool (bytes_eq place path))
 
 module _ {R : Type 0} where
-  -- an empty file was put where nothing stood, or nothing was
+  -- an empty file was put where there was nothing, or nothing was put
   pub put_made : {E : Type 0} (path bytes : List ℕ) (old new : MemoryFolder R) (done : Result (Unit {0}) E) → bytes ≡ [] → standing_at old path ≡ nothing
       → OnOk done (PutsAt path (file bytes) old new) → OnErr done (standing_at new ≡ standing_at old) → IsSameOrMade (standing_at old path) (standing_at new path)
   put_made path bytes old new (Ok done) empty free puts same = inr (free, puts.here ∙ ap file empty)
@@ -55,14 +55,14 @@ module _ {R : Type 0} where
   same_disks : (old new : MemoryFolder R) → ((place : List ℕ) → bytes_of (standing_at new place) ≡ bytes_of (standing_at old place)) → disk_in new ≡ disk_in old
   same_disks old new same = fun_ext (λ place. ap Some (same place))
 
-  -- no file's bytes change where one is made
+  -- the bytes of each file are unchanged if a file is made
   pub made_disks : (path : List ℕ) (old new : MemoryFolder R) → IsSameOrMade (standing_at old path) (standing_at new path)
       → ((place : List ℕ) → place ≢ path → standing_at new place ≡ standing_at old place) → disk_in new ≡ disk_in old
   made_disks path old new made others = same_disks old new (λ place.
       at_or_off (λ p. bytes_of (standing_at new p) ≡ bytes_of (standing_at old p)) path place
       (made_bytes (standing_at old path) (standing_at new path) made) (λ far. ap bytes_of (others place far)))
 
-  -- a disk and then its companion, each made where nothing stood
+  -- a disk and then its companion, each made if there was nothing
   pub both_made : (path name : List ℕ) (old mid new : MemoryFolder R) → name ≡ path ++ codes "-wal"
       → IsSameOrMade (standing_at old path) (standing_at mid path) → ((place : List ℕ) → place ≢ path → standing_at mid place ≡ standing_at old place)
       → IsSameOrMade (standing_at mid name) (standing_at new name) → ((place : List ℕ) → place ≢ name → standing_at new place ≡ standing_at mid place)
@@ -75,7 +75,7 @@ module _ {R : Type 0} where
     others = λ place far off. rest place (λ same. off (same ∙ is)) ∙ others place far;
   }
 
-  -- nor where both are
+  -- the bytes of each file are unchanged if both are made
   pub both_disks : (path : List ℕ) (old new : MemoryFolder R) → MakesBoth path (folders_of old).places (folders_of new).places → disk_in new ≡ disk_in old
   both_disks path old new makes =
       let beside = companion_of (folders_of old).places path in
@@ -86,7 +86,7 @@ module _ {R : Type 0} where
       (made_bytes (standing_at old beside) (standing_at new beside) makes.companion)
       (λ off. ap bytes_of (makes.others place far off))))
 
-  -- nor where an empty file is removed
+  -- the bytes of each file are unchanged if an empty file is removed
   pub removed_disks : {E : Type 0} (path : List ℕ) (old new : MemoryFolder R) (done : Result (Unit {0}) E) → standing_at old path ≡ file []
       → OnOk done (PutsAt path nothing old new) → OnErr done (standing_at new ≡ standing_at old) → disk_in new ≡ disk_in old
   removed_disks path old new (Ok done) empty puts same = same_disks old new (λ place.

@@ -1,4 +1,4 @@
--- What failed calls come to, over the steps of an opening.
+-- The faults for failed calls, over the steps of an opening.
 use Rattle.std.proofs.Common.{◌≡◌, ◌≢◌, ◌∙◌, ◌∷◌, ◌++◌, ◌&&◌, ℕ, List, [], Bool, true, false, IsTrue, Result, Ok, Err, length, map, refl, sym, subst, ap, inl, inr, ⊎_elim}
 use Rattle.std.specs.Prelude.{nat_eq, IsErrAnd, MatchResult}
 use Rattle.std.proofs.lemmas.Bool.Decides.{eqb_tells}
@@ -46,11 +46,11 @@ module _ {S : Type 0} (path : List ℕ) (old new : List FailedCall) where
       (met_just path (locked_with error) (fault_of_opening error) old (record { path = path; setback = locked_with error } ∷ old) refl (lock_fault error))
 
 module _ {T : Type 0} (path : List ℕ) (old new : List FailedCall) where
-  -- what is done
+  -- something that succeeded
   pub done_meets : (it : T) → ForgetsNone old new → Meets path (Ok it) old new
   done_meets it goes = record { goes = goes; fault = tt }
 
-  -- what is found there, and is no disk's file
+  -- the length of the file at the path is not that of a disk
   pub length_meets : (n : ℕ) → ForgetsNone old new → Meets {T = T} path (Err (faults.Size n)) old new
   length_meets n goes = record { goes = goes; fault = tt }
 
@@ -60,7 +60,7 @@ module _ {T : Type 0} (path : List ℕ) (old new : List FailedCall) where
   pub special_meets : ForgetsNone old new → Meets {T = T} path (Err (faults.Device causes.Special)) old new
   special_meets goes = record { goes = goes; fault = tt }
 
--- of the setbacks that are noted at a path each has failed
+-- each setback that is noted at a path is that of a call that failed
 failed_in : (path : List ℕ) (setback : Setback) (all : List Setback) (old : List FailedCall) → IsAmong setback all
     → FailsBetween (record { path = path; setback = setback }) old (noted_all path all old)
 failed_in path setback [] old is = absurd is
@@ -75,7 +75,7 @@ failed_in path setback (first ∷ others) old is = ⊎_elim
     (goes_itself old) (goes_more (record { path = path; setback = first }) (noted_all path others old)) (failed_in path setback others old later))
     is
 
--- a file that was unlocked, with a fault of its own
+-- a file was unlocked, and its setbacks were noted
 pub unlocked_goes : (path : List ℕ) (all : List Setback) (old new : List FailedCall) → new ≡ noted_all path all old → ForgetsNone old new
 unlocked_goes path all old new is = record { later = map (λ s. record { path = path; setback = s }) all; is = is }
 
@@ -94,7 +94,7 @@ among_after : (setback : Setback) (front rest : List Setback) → IsAmong setbac
 among_after setback [] rest is = is
 among_after setback (first ∷ others) rest is = inr (among_after setback others rest is)
 
--- the error of a call of a file, as its fault
+-- the fault for an error of a call of the file is that of a setback
 pub used_fault : {D : Type 0} (g : Ghosts D) (l : Locked D) (kind : ErrorKind) → IsAmong kind (items l.failed) → IsFaultOf (setbacks_of g l) (fault_of_found kind)
 used_fault g l kind is = (setbacks.Used kind, among_after (setbacks.Used kind) (unless_fit (is_fit g l.file)) (map setbacks.Used (items l.failed)) (among_used kind (items l.failed) is), refl)
 
@@ -106,12 +106,12 @@ unfit_first : (fit : Bool) (rest : List Setback) → fit ≡ false → IsAmong s
 unfit_first true rest is = absurd cc
 unfit_first false rest is = inl refl
 
--- that of a file that has not the length of a disk
+-- the fault for a file that does not have the length of a disk is that of a setback
 pub unfit_fault : {D : Type 0} (g : Ghosts D) (l : Locked D) (n : ℕ) → (IsTrue (g.is_clean l.file) → n ≡ length (g.seen l.file)) → n ≢ disk_length
     → IsFaultOf (setbacks_of g l) (faults.Device causes.Failed)
 unfit_fault g l n told other = (setbacks.Unfit, unfit_first (is_fit g l.file) (map setbacks.Used (items l.failed)) (not_fit (g.is_clean l.file) (length (g.seen l.file)) n told other), refl)
 
--- the errors before one more call
+-- an error before one more call is an error after it
 pub kinds_before : {T : Type 0} (done : Result T Error) (kind : ErrorKind) (kinds : List ErrorKind) → IsAmong kind kinds → IsAmong kind (kinds_after done kinds)
 kinds_before (Ok it) kind kinds is = is
 kinds_before (Err error) kind kinds is = inr is
@@ -120,7 +120,7 @@ kinds_before (Err error) kind kinds is = inr is
 pub last_kind : {T : Type 0} (result : Result T Error) (error : Error) (old new : List ErrorKind) → result ≡ Err error → new ≡ kinds_after result old → IsAmong (error_kind error) new
 last_kind {T} result error old new is after = subst (λ (kinds : List ErrorKind). IsAmong (error_kind error) kinds) (sym (after ∙ ap (λ (r : Result T Error). kinds_after r old) is)) (inl refl)
 
--- a text that was asked for
+-- a call that asked for a text
 pub text_meets : {T : Type 0} (path : List ℕ) (done : Result T Error) (result : Result T FileFault) (old new : List FailedCall) → new ≡ noted_at path asked_with done old
     → MatchResult done (λ text. result ≡ Ok text) (λ error. IsErrAnd result (λ fault. fault ≡ fault_of_kind (error_kind error))) → Meets path result old new
 text_meets {T} path (Ok text) result old new is by = subst (λ (r : Result T FileFault). Meets path r old new) (sym by) (done_meets path old new text (goes_same old new is))

@@ -1,4 +1,4 @@
--- What the opening of a disk leaves, step by step.
+-- What opening a disk leaves, step by step.
 use Rattle.std.proofs.Common.{◌≡◌, ◌∙◌, ◌≤◌, ◌+◌, ℕ, List, length, Bool, IsTrue, Option, Result, Ok, Err, IfOk, IfErr, refl, sym, ap, subst, inl, inr, ⊎_elim, arith}
 use Rattle.std.specs.Prelude.{◌≢◌}
 use Rattle.zh_disk.specs.Disk.{disk_length}
@@ -18,7 +18,7 @@ IsRight is_clean seen before after = IsTrue (is_clean after) → IsTrue (is_clea
 are_same : (old new : Places) → new ≡ old → AreSame old new
 are_same old new same = record { leads = ap (λ (p : Places). p.leads) same; stands = λ place. ap (λ (p : Places). p.stands place) same }
 
--- a length is that of some bytes
+-- a length is the length of some bytes
 of_length : (standing : Standing) (n : ℕ) → IsLength standing n → (bytes : List ℕ) × (standing ≡ file bytes) × (n ≡ length bytes)
 of_length nothing n is = absurd is
 of_length (file bytes) n is = (bytes, refl, is)
@@ -34,7 +34,7 @@ nothing_length standing n is none = let wrong : IsLength nothing n = subst (λ (
 pub bytes_length : (standing : Standing) (n : ℕ) (bytes : List ℕ) → IsLength standing n → standing ≡ file bytes → n ≡ length bytes
 bytes_length standing n bytes is found = let at : IsLength (file bytes) n = subst (λ (s : Standing). IsLength s n) found is in at
 
--- the lock of a disk, as one of its file
+-- the lock of a disk is a lock of its file
 module _ {L D : Type 0} (path : List ℕ) (file_of : L → D) (seen : D → List ℕ) (a b : Option Folders) where
   pub file_locked : (it : L) → IfKnown (TakesLock path (λ (l : L). seen (file_of l)) (Ok it)) a b → IfKnown (TakesLock path seen (Ok (file_of it))) a b
   file_locked it takes = map_known (TakesLock path (λ (l : L). seen (file_of l)) (Ok it)) (TakesLock path seen (Ok (file_of it))) a b
@@ -83,7 +83,7 @@ module _ {T D : Type 0} (Failed : Type 0) (path : List ℕ) (bytes : T → List 
     cause = (measures.length, differs, are_same x.places y.places measures.same);
   }
 
-  -- what was measured stands there still once it is locked
+  -- the file that was measured is still there once it is locked
   kept_locked : (n : ℕ) (x y z : Folders) (result : Result D FileFault) → Measures path (Ok n) x y → TakesLock path seen result y z
       → TouchesOnly path x.places z.places × (found_at z.places path ≡ found_at x.places path)
   kept_locked n x y z result measures takes =
@@ -148,7 +148,7 @@ module _ {T D : Type 0} (is_clean : D → Bool) (failures : D → ℕ) (seen : D
       causes (Ok d) refused size by = tt
       causes (Err fault) refused size by = start_cause IsNoDisk f x z refused (λ clean. size) fault by
 
--- the same of what may be known
+-- the same for what is known of a folder, if anything is
 module _ {T D : Type 0} (is_clean : D → Bool) (failures : D → ℕ) (seen : D → List ℕ) (path : List ℕ) (bytes : T → List ℕ) (n : ℕ) (a b c : Option Folders)
     (measures : IfKnown (Measures path (Ok n)) a b) where
   pub known_unlocked : (fault : FileFault) → IfKnown (TakesLock path seen (Err fault)) b c → IfKnown (OpensDisk {T = T} (HasFailed is_clean failures) path bytes (Err fault)) a c

@@ -1,4 +1,4 @@
--- What is known of places over several calls, and of the calls that failed.
+-- What is known of places and of failed calls over several calls.
 use Rattle.std.proofs.Common.{◌≡◌, ◌∙◌, ◌∷◌, ◌++◌, List, [], ℕ, Option, Some, None, Result, Ok, Err, ap, append_assoc, refl, inl, subst, sym}
 use Rattle.zh_file.specs.Failures.{FailedCall, ForgetsNone, FailsBetween, IsMet, IsOfCall, Meets, setback_fault}
 use Rattle.zh_file.specs.declared.fault.FileCause.TheVariants as causes
@@ -7,20 +7,20 @@ use Rattle.zh_file.specs.declared.fault.FileFault.TheVariants as faults
 use Rattle.zh_file.specs.declared.notes.Setback.{Setback}
 use Rattle.zh_file.specs.Places.{IfKnown, Places, TouchesOnly}
 
--- what stays as it was is touched nowhere
+-- places that have not changed are untouched
 pub untouched : (path : List ℕ) (known : Option Places) → IfKnown (TouchesOnly path) known known
 untouched path None = refl
 untouched path (Some places) = record { leads = refl; disk = inl refl; companion = inl refl; others = λ place disk companion. refl }
 
--- a call before it that changes nothing
+-- a call that changes nothing, followed by another call
 pub after_stay : {A : Type 0} (R : A → A → Type 0) (old mid new : Option A) → mid ≡ old → IfKnown R mid new → IfKnown R old new
 after_stay R old mid new same by = subst (λ k. IfKnown R k new) same by
 
--- and one after it
+-- a call followed by one that changes nothing
 pub before_stay : {A : Type 0} (R : A → A → Type 0) (old mid new : Option A) → new ≡ mid → IfKnown R old mid → IfKnown R old new
 before_stay R old mid new same by = subst (λ k. IfKnown R old k) (sym same) by
 
--- no call touches more than one that changes nothing
+-- a call that changes nothing touches nothing
 pub stays_untouched : (path : List ℕ) (old new : Option Places) → new ≡ old → IfKnown (TouchesOnly path) old new
 stays_untouched path old new same = before_stay (TouchesOnly path) old old new same (untouched path old)
 
@@ -40,7 +40,7 @@ goes_both a b c one two = record {
   is = two.is ∙ ap (λ (x : List FailedCall). two.later ++ x) one.is ∙ sym (append_assoc two.later one.later a);
 }
 
--- one that just failed
+-- a call that just failed
 pub just_failed : (call : FailedCall) (calls : List FailedCall) → FailsBetween call calls (call ∷ calls)
 just_failed call calls = record { before = calls; begun = goes_itself calls; goes = goes_itself (call ∷ calls) }
 
@@ -81,7 +81,7 @@ met_within path (faults.Device causes.Special) a b c d one two by = tt
 met_within path (faults.Device cause) a b c d one two by = of_call_within path (faults.Device cause) a b c d one two by
 
 module _ {T : Type 0} (path : List ℕ) where
-  -- after calls that go on
+  -- the same after further failed calls
   pub meets_after : (result : Result T FileFault) (a b c : List FailedCall) → ForgetsNone a b → Meets path result b c → Meets path result a c
   meets_after (Ok it) a b c one meets = record { goes = goes_both a b c one meets.goes; fault = tt }
   meets_after (Err fault) a b c one meets = record {
@@ -89,7 +89,7 @@ module _ {T : Type 0} (path : List ℕ) where
     fault = met_within path fault a b c c one (goes_itself c) meets.fault;
   }
 
-  -- and before such
+  -- the same before further failed calls
   pub meets_before : (result : Result T FileFault) (a b c : List FailedCall) → ForgetsNone b c → Meets path result a b → Meets path result a c
   meets_before (Ok it) a b c two meets = record { goes = goes_both a b c meets.goes two; fault = tt }
   meets_before (Err fault) a b c two meets = record {
@@ -97,7 +97,7 @@ module _ {T : Type 0} (path : List ℕ) where
     fault = met_within path fault a a b c (goes_itself a) two meets.fault;
   }
 
-  -- of another type
+  -- the same for a result of another type
   pub meets_as : {S : Type 0} (fault : FileFault) (a b : List FailedCall) → Meets {T = T} path (Err fault) a b → Meets {T = S} path (Err fault) a b
   meets_as fault a b meets = record { goes = meets.goes; fault = meets.fault }
 

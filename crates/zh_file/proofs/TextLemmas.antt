@@ -1,4 +1,4 @@
--- What is known of texts stays so while a disk is opened.
+-- What is known of texts does not change while a disk is opened.
 use Rattle.std.proofs.Common.{◌≡◌, ◌∙◌, ℕ, List, [], Option, Some, None, sym, ap, subst, ⊎_elim}
 use Rattle.std.proofs.Math.Path.{fun_ext}
 use Rattle.std.proofs.lemmas.Bool.{cases_Bool}
@@ -38,7 +38,7 @@ path_bytes : (path : List ℕ) (x y : Places) → TouchesOnly path x y → (p : 
 path_bytes path x y touches p =
     subst (λ (l : List ℕ → List ℕ). bytes_of (y.stands (l p)) ≡ bytes_of (found_at x p)) (sym touches.leads) (place_bytes path x y touches (x.leads p))
 
--- the texts, as far as they are known
+-- the texts are the same, as far as they are known
 pub same_texts : (path : List ℕ) (P : Folders → Folders → Type 0) → ((x y : Folders) → P x y → TouchesOnly path x.places y.places)
     → (old new : Option Folders) → IfKnown P old new → bytes_known new ≡ bytes_known old
 same_texts path P touches None new by = ap bytes_known by

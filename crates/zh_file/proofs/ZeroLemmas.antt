@@ -7,7 +7,7 @@ use Rattle.sqlite_disk.specs.Disk.{Holds, Torn}
 use Rattle.zh_disk.specs.Disk.{disk_length}
 use Rattle.zh_file.specs.Stored.{IsZeroed}
 
--- as long as a disk, with zeros up to here
+-- the bytes are as long as a disk, with zeros up to place n
 pub record IsZeroedTo (n : ℕ) (bytes : List ℕ) : Type 0 where
   pub size : length bytes ≡ disk_length
   pub zero : (k : ℕ) → k < n → slice_index bytes k ≡ 0
@@ -18,7 +18,7 @@ replicated n k = ⊎_elim
     (λ high. get_or_past (replicate n 0) k 0 (omega (arith, length-replicate {A = ℕ} n 0)))
     (cases_lt k n)
 
--- one block more
+-- one more block of zeros is written
 pub zeroed_more : (block at : ℕ) (zeros old new : List ℕ) → length zeros ≡ block → 0 < block → at + block ≤ disk_length → ((k : ℕ) → slice_index zeros k ≡ 0)
     → IsZeroedTo at old → Torn at (length zeros) old new → (0 < length zeros → Holds new at zeros) → IsZeroedTo (at + block) new
 zeroed_more block at zeros old new size some fits all before torn holds = record {

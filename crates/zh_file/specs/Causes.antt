@@ -1,4 +1,5 @@
--- Why a file was not opened: in words, by the kind of error that the system names, and what it says of what stands there.
+-- Why a file could not be opened: the words for each cause, the causes by the kind of error that the system reports, and what a
+-- cause says about what is at the path.
 use Rattle.std.specs.Prelude.{◌≡◌, ◌≢◌, ℕ, List, codes, length, Option, Some, None, Result, Ok, Err}
 use Rattle.std.specs.declared.io.ErrorKind.{ErrorKind}
 use Rattle.std.specs.declared.io.ErrorKind.TheVariants as kinds
@@ -10,7 +11,7 @@ use Rattle.zh_file.specs.declared.fault.FileCause.TheVariants as causes
 use Rattle.zh_file.specs.declared.fault.FileFault.{FileFault}
 use Rattle.zh_file.specs.declared.fault.FileFault.TheVariants as faults
 
--- its words
+-- the words for a cause
 abbrev pub cause_name : FileCause → List ℕ
 cause_name causes.Missing = codes "there is no such file"
 cause_name causes.Permission = codes "no permission"
@@ -24,7 +25,7 @@ cause_name causes.SecondName = codes "it or its companion is no file with one na
 cause_name causes.Journal = codes "a journal is beside it"
 cause_name causes.Failed = codes "a call failed"
 
--- the cause of an error of a kind
+-- the cause for an error of this kind
 abbrev pub cause_of : ErrorKind → FileCause
 cause_of kinds.NotFound = causes.Missing
 cause_of kinds.PermissionDenied = causes.Permission
@@ -36,49 +37,50 @@ cause_of kinds.QuotaExceeded = causes.NoRoom
 cause_of kinds.InvalidFilename = causes.LongName
 cause_of kind = causes.Failed
 
--- the fault of such an error
+-- the fault for an error of this kind
 abbrev pub fault_of_kind : ErrorKind → FileFault
 fault_of_kind kinds.OutOfMemory = faults.Memory
 fault_of_kind kind = faults.Device (cause_of kind)
 
--- That of an error of a disk's file, which was found at its path: it says nothing of what stands there. What is missing, or is a
--- folder, is not the file.
+-- The fault for an error of a disk's file after that was found at its path. It says nothing about what is there: if the error says
+-- that something is missing or a folder, that is not the file.
 abbrev pub fault_of_found : ErrorKind → FileFault
 fault_of_found kinds.OutOfMemory = faults.Memory
 fault_of_found kinds.NotFound = faults.Device causes.Failed
 fault_of_found kinds.IsADirectory = faults.Device causes.Failed
 fault_of_found kind = faults.Device (cause_of kind)
 
--- That of an error of its locking: a file with a second name is not supported, nor a companion that is none.
+-- The fault for an error of locking a disk. `Unsupported` means that the file has a second name, or that its companion is not a
+-- file with one name.
 abbrev pub fault_of_locking : ErrorKind → FileFault
 fault_of_locking kinds.Unsupported = faults.Device causes.SecondName
 fault_of_locking kind = fault_of_found kind
 
--- what a cause says of what stands at the path: that nothing does, or what; the others say nothing of it
+-- what a cause says about what is at the path: that it is nothing, a folder or something else; the other causes say nothing
 abbrev pub IsCauseAt : Standing → FileCause → Type 0
 IsCauseAt standing causes.Missing = standing ≡ nothing
 IsCauseAt standing causes.Folder = standing ≡ folder
 IsCauseAt standing causes.Special = standing ≡ other
 IsCauseAt standing cause = Unit {0}
 
--- a file of so many bytes stands there
+-- there is a file with this many bytes
 abbrev pub IsLength : Standing → ℕ → Type 0
 IsLength (file bytes) n = n ≡ length bytes
 IsLength standing n = ⊥
 
--- what a fault says of it
+-- what a fault says about what is at the path
 abbrev pub IsFaultAt : Standing → FileFault → Type 0
 IsFaultAt standing faults.Memory = Unit {0}
 IsFaultAt standing (faults.Device cause) = IsCauseAt standing cause
 IsFaultAt standing (faults.Size n) = IsLength standing n × (n ≢ disk_length)
 IsFaultAt standing faults.Busy = Unit {0}
 
--- of what stands at a path, if that is known
+-- the same, if it is known what is at the path
 abbrev pub IsFaultIn : Option Places → List ℕ → FileFault → Type 0
 IsFaultIn None path fault = Unit {0}
 IsFaultIn (Some places) path fault = IsFaultAt (found_at places path) fault
 
--- How a call at a path ended, and what is noted of it: that it did not fail, or its fault, which says what stands there.
+-- How a call at a path ended, and what is noted: None if it did not fail, or its fault, which is right about what is there.
 abbrev pub EndsAt : {T : Type 0} → Option Places → List ℕ → Option FileFault → Result T FileFault → Type 0
 EndsAt places path noted (Ok opened) = noted ≡ None
 EndsAt places path noted (Err fault) = (noted ≡ Some fault) × IsFaultIn places path fault

@@ -1,4 +1,4 @@
--- What stands in a folder in memory, and what a call there does.
+-- What is in a folder in memory, and what a call there does.
 use Rattle.std.specs.Prelude.{◌≡◌, ◌≢◌, ◌-◌, ◌⊎◌, ℕ, List, [], ◌∷◌, Option, Some, Result, IsErr, IfErr, if◌then◌else◌, string_bytes}
 use Rattle.std.specs.Str.{bytes_eq}
 use Rattle.std.specs.IoError.{error_kind}
@@ -16,7 +16,7 @@ use Rattle.zh_file.specs.declared.memory_folder.Stood.TheVariants as stood
 use Rattle.zh_file.specs.declared.memory_folder.Placed.{Placed}
 use Rattle.zh_file.specs.declared.memory_folder.MemoryFolder.{MemoryFolder}
 
--- what clauses speak of
+-- the part of a file in memory that clauses describe
 abbrev pub file_of : MemoryFile → Fuse Memory
 file_of f = f.file
 
@@ -25,17 +25,17 @@ stood_as (stood.File bytes) = file bytes.items
 stood_as stood.Other = other
 stood_as stood.Nothing = nothing
 
--- what was placed at this path, of several the first
+-- what was put at this path: the first entry if there are several
 abbrev pub placed_at : List Placed → List ℕ → Standing
 placed_at [] path = nothing
 placed_at (placed ∷ others) path = if bytes_eq (string_bytes placed.path) path then stood_as placed.stood else placed_at others path
 
 module _ {R : Type 0} where
-  -- what stands at a path
+  -- what is at a path
   abbrev pub standing_at : MemoryFolder R → List ℕ → Standing
   standing_at folder = placed_at folder.placed.items
 
-  -- no path is a link
+  -- what is at each path, and the counts; no path is a link
   abbrev pub folders_of : MemoryFolder R → Folders
   folders_of folder = record {
     places = record { leads = λ path. path; stands = standing_at folder };
@@ -46,12 +46,12 @@ module _ {R : Type 0} where
   abbrev pub disk_in : MemoryFolder R → List ℕ → Option (List ℕ)
   disk_in folder path = Some (bytes_of (standing_at folder path))
 
-  -- this stands at the path then, and elsewhere what stood there
+  -- this is at the path then, and everything else is unchanged
   pub record PutsAt (path : List ℕ) (standing : Standing) (old new : MemoryFolder R) : Type 0 where
     pub here : standing_at new path ≡ standing
     pub others : (place : List ℕ) → place ≢ path → standing_at new place ≡ standing_at old place
 
-  -- a call that was counted down, and fails if none was left; else it fails only for memory, or for this reason
+  -- the call was counted down. It fails if none was left; otherwise it fails only if memory is refused, or for this reason
   pub record Spends {T : Type 0} (reason : Type 0) (result : Result T Error) (old new : MemoryFolder R) : Type 0 where
     pub spent : new.calls ≡ old.calls - 1
     pub blown : old.calls ≡ 0 → IsErr result

@@ -1,4 +1,4 @@
--- What is noted of a folder: the calls that failed, and the files that were unlocked.
+-- The notes of a folder: the calls that failed and the files that were unlocked.
 use Rattle.std.specs.Prelude.{List, [], ◌∷◌}
 use Rattle.sqlite_disk.specs.declared.Disk.{Ghosts}
 use Rattle.zh_file.specs.Failures.{FailedCall, failed_call}
@@ -8,7 +8,7 @@ use Rattle.zh_file.specs.declared.notes.Note.{Note}
 use Rattle.zh_file.specs.declared.notes.Note.TheVariants.{Failed, Unlocked}
 use Rattle.zh_file.specs.declared.stored.locked.Locked.{Locked}
 
--- the failed calls
+-- the failed calls among the notes
 abbrev pub failed_among : {D : Type 0} → Ghosts D → List (Note D) → List FailedCall
 failed_among g [] = []
 failed_among g (Failed failure ∷ notes) = failed_call failure ∷ failed_among g notes

@@ -1,4 +1,4 @@
--- What the opening of a disk leaves of a folder, and which fault has which cause.
+-- What opening a disk leaves in a folder, and which fault has which cause.
 use Rattle.std.specs.Prelude.{◌≡◌, ◌≢◌, ◌⊎◌, ◌<◌, ◌+◌, ℕ, Bool, IsTrue, List, Result, IfOk, IfErr}
 use Rattle.zh_disk.specs.Disk.{disk_length}
 use Rattle.zh_disk.specs.History.{History}
@@ -10,22 +10,21 @@ use Rattle.zh_file.specs.Folder.{Folders}
 use Rattle.zh_file.specs.declared.fault.FileFault.{FileFault}
 use Rattle.zh_file.specs.declared.fault.FileFault.TheVariants as faults
 
--- everything stands where it stood
+-- at each path there is what was there before
 pub record AreSame (old new : Places) : Type 0 where
   pub leads : new.leads ≡ old.leads
   pub stands : (place : List ℕ) → new.stands place ≡ old.stands place
 
--- what stands there is no file
+-- what is there is not a file
 abbrev pub IsNoFile : Standing → Type 0
 IsNoFile standing = (standing ≡ folder) ⊎ (standing ≡ other)
 
--- A file whose answers were right has failed a call. It is the one that was locked.
+-- If all answers of the file that was locked were right, a call of it has failed.
 abbrev pub HasFailed : {D : Type 0} → (D → Bool) → (D → ℕ) → Type 0
 HasFailed {D} is_clean failures = (after : D) × (IsTrue (is_clean after) → 0 < failures after)
 
--- Why there is no disk. `IsRefused` says which lengths are none of a disk, and `Failed` that a call of its file failed. A cause
--- is right about what stood at the path.
--- Where the length is wrong nothing was made or removed.
+-- Why there is no disk. `IsRefused` says which lengths are refused, and `Failed` that a call of the locked file failed. A cause
+-- is right about what was at the path. If the length is wrong, nothing was made or removed.
 abbrev pub IsOpeningCause : (ℕ → Type 0) → Type 0 → List ℕ → Folders → Folders → FileFault → Type 0
 IsOpeningCause IsRefused Failed path old new faults.Memory = Unit {0}
 IsOpeningCause IsRefused Failed path old new (faults.Size n) =
@@ -35,16 +34,16 @@ IsOpeningCause IsRefused Failed path old new (faults.Device cause) =
     (new.refused ≡ old.refused) × IsCauseAt (found_at old.places path) cause
     × ((old.failed < new.failed) ⊎ (IsNoFile (found_at old.places path) ⊎ Failed))
 
--- none of a disk's length
+-- not the length of a disk
 abbrev pub IsNoDisk : ℕ → Type 0
 IsNoDisk n = n ≢ disk_length
 
--- nor empty
+-- neither the length of a disk nor 0
 abbrev pub IsNoStart : ℕ → Type 0
 IsNoStart n = (n ≢ disk_length) × (n ≢ 0)
 
--- The disk that is there at this path was opened, and `bytes` are those that it begins with; or it was not. What stands there
--- is as it was.
+-- The disk at this path was opened, and `bytes` are those with which it begins; or it was not opened. What is at the path is
+-- unchanged.
 pub record OpensDisk {T : Type 0} (Failed : Type 0) (path : List ℕ) (bytes : T → List ℕ) (result : Result T FileFault)
     (old new : Folders) : Type 0 where
   pub touches : TouchesOnly path old.places new.places
@@ -53,7 +52,7 @@ pub record OpensDisk {T : Type 0} (Failed : Type 0) (path : List ℕ) (bytes : T
   pub refused : IfOk result (λ disk. new.refused ≡ old.refused)
   pub cause : IfErr result (IsOpeningCause IsNoDisk Failed path old new)
 
--- The same of a disk that is made where there is none, or where an empty file is: its file is then filled, with zeros.
+-- The same for a disk that is made if there is none, or if there is an empty file: the file is then filled with zeros.
 pub record OpensOrMakesDisk {T : Type 0} (Failed : Type 0) (path : List ℕ) (history : T → History) (result : Result T FileFault)
     (old new : Folders) : Type 0 where
   pub touches : TouchesOnly path old.places new.places

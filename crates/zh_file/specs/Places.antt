@@ -1,7 +1,7 @@
--- What stands where: links lead paths to places, and at a place stands a file or none.
+-- What is at each path: a path leads to a place, after links are followed, and at a place there is a file, something else or nothing.
 use Rattle.std.specs.Prelude.{◌≡◌, ◌≢◌, ◌⊎◌, ℕ, List, [], ◌++◌, codes, Option, Some, None}
 
--- nothing, a file with these bytes, a folder, or something else, as a pipe or a device
+-- nothing, a file with these bytes, a folder, or something else, for example a pipe or a device
 pub data Standing : Type 0 where
   nothing : Standing
   file : List ℕ → Standing
@@ -9,39 +9,39 @@ pub data Standing : Type 0 where
   other : Standing
 
 pub record Places : Type 0 where
-  -- the place that a path leads to, with each link followed
+  -- the place to which a path leads, after all links are followed
   pub leads : List ℕ → List ℕ
   pub stands : List ℕ → Standing
 
--- what stands where this path leads
+-- what is at the place to which this path leads
 abbrev pub found_at : Places → List ℕ → Standing
 found_at places path = places.stands (places.leads path)
 
--- the place of the companion of the disk at this path, a file of the library beside it
+-- the place of the companion of the disk at this path, a file of the library next to it
 abbrev pub companion_of : Places → List ℕ → List ℕ
 companion_of places path = places.leads path ++ codes "-wal"
 
--- the bytes of what stands there: none where there is no file
+-- the bytes of what is there; empty if it is not a file
 abbrev pub bytes_of : Standing → List ℕ
 bytes_of nothing = []
 bytes_of (file bytes) = bytes
 bytes_of folder = []
 bytes_of other = []
 
--- it is there as it was, or it was made, without a byte, where nothing stood
+-- what is there has not changed, or an empty file was made where there was nothing
 abbrev pub IsSameOrMade : Standing → Standing → Type 0
 IsSameOrMade old new = (new ≡ old) ⊎ ((old ≡ nothing) × (new ≡ file []))
 
--- no byte stands there
+-- there is nothing or an empty file
 abbrev pub IsBare : Standing → Type 0
 IsBare standing = (standing ≡ nothing) ⊎ (standing ≡ file [])
 
--- it is there as it was, or no byte stood there and none stands there
+-- what is there has not changed, or there was nothing or an empty file and still is
 abbrev pub IsSameOrBare : Standing → Standing → Type 0
 IsSameOrBare old new = (new ≡ old) ⊎ (IsBare old × IsBare new)
 
--- What the opening of the disk at this path may leave: an empty file where nothing stood, and its companion, where that is
--- empty, made or removed. Everything else is as it was.
+-- What opening the disk at this path can change: an empty file can be made where there was nothing, and an empty companion can
+-- be made or removed. Everything else is unchanged.
 pub record TouchesOnly (path : List ℕ) (old new : Places) : Type 0 where
   pub leads : new.leads ≡ old.leads
   pub disk : IsSameOrMade (found_at old path) (found_at new path)
@@ -49,13 +49,13 @@ pub record TouchesOnly (path : List ℕ) (old new : Places) : Type 0 where
   pub others : (place : List ℕ) → place ≢ old.leads path → place ≢ companion_of old path
       → new.stands place ≡ old.stands place
 
--- what was known is known, and this is so of the two
+-- what was known still is, what was not is not; and if both are known, `Does` holds of them
 abbrev pub IfKnown : {A : Type 0} → (A → A → Type 0) → Option A → Option A → Type 0
 IfKnown Does None new = new ≡ None
 IfKnown Does (Some old) None = ⊥
 IfKnown Does (Some old) (Some new) = Does old new
 
--- what a task may have touched of what is known to stand where: of the disk at this path, if it is given one
+-- what a task can have touched, as far as it is known what is at each path: only what an opening of its disk touches, if it has one
 abbrev pub Touches : Option (List ℕ) → Option Places → Option Places → Type 0
 Touches None old new = new ≡ old
 Touches (Some path) old new = IfKnown (TouchesOnly path) old new

@@ -1,4 +1,4 @@
--- What the steps of an opening leave, for those that follow.
+-- What each step of an opening leaves for the next ones.
 use Rattle.std.specs.Prelude.{◌≡◌, ◌≢◌, ◌⊎◌, ◌<◌, ◌≤◌, ◌+◌, ℕ, List, [], Bool, IsTrue, Result, IfOk, IfErr, length}
 use Rattle.zh_disk.specs.Disk.{disk_length}
 use Rattle.zh_file.specs.Failures.{FailedCall, FailsBetween}
@@ -12,12 +12,12 @@ use Rattle.zh_file.specs.declared.fault.FileCause.TheVariants as causes
 use Rattle.zh_file.specs.declared.fault.FileFault.{FileFault}
 use Rattle.zh_file.specs.declared.fault.FileFault.TheVariants as faults
 
--- no lock was refused, and no failure is forgotten
+-- no lock was refused, and the number of failed calls did not fall
 pub record GoesAhead (old new : Folders) : Type 0 where
   pub failed : old.failed ≤ new.failed
   pub refused : new.refused ≡ old.refused
 
--- why a file was not measured: a call failed, or none stands there
+-- why a file could not be measured: a call failed, or what is there is not a file
 abbrev pub IsUnmeasured : List ℕ → Folders → Folders → FileFault → Type 0
 IsUnmeasured path old new faults.Memory = Unit {0}
 IsUnmeasured path old new (faults.Device cause) =
@@ -31,14 +31,14 @@ pub record Measures (path : List ℕ) (result : Result ℕ FileFault) (old new :
   pub length : IfOk result (IsLength (found_at old.places path))
   pub cause : IfErr result (IsUnmeasured path old new)
 
--- an empty file at the place of a companion was removed, or not
+-- an empty companion was removed, or not
 pub record ClearsCompanion (path : List ℕ) (old new : Places) : Type 0 where
   pub leads : new.leads ≡ old.leads
   pub companion : (new.stands (companion_of old path) ≡ old.stands (companion_of old path))
       ⊎ ((old.stands (companion_of old path) ≡ file []) × (new.stands (companion_of old path) ≡ nothing))
   pub others : (place : List ℕ) → (place ≡ companion_of old path → ⊥) → new.stands place ≡ old.stands place
 
--- that of a disk was looked at
+-- the companion of a disk was looked at, and removed if it was empty, or not
 pub record LeavesCompanion (path : List ℕ) (old new : Folders) : Type 0 where
   pub clears : ClearsCompanion path old.places new.places
   pub goes : GoesAhead old new
@@ -49,26 +49,26 @@ pub record FailsAtEither (path companion : List ℕ) (old new : List FailedCall)
   pub at : (call.path ≡ path) ⊎ (call.path ≡ companion)
   pub failed : FailsBetween call old new
 
--- No empty file stands at the place of the companion of the disk at this path; or a call failed that was to find or to remove it.
+-- There is no empty file at the place of the companion of the disk at this path; or a call failed at one of the two paths.
 abbrev pub IsRidOfCompanion : List ℕ → List FailedCall → List FailedCall → Folders → Type 0
 IsRidOfCompanion path old new now =
     (now.places.stands (companion_of now.places path) ≢ file []) ⊎ FailsAtEither path (companion_of now.places path) old new
 
--- this cause says nothing of what stands at the path
+-- this cause says nothing about what is at the path
 abbrev pub IsSilent : FileCause → Type 0
 IsSilent causes.Missing = ⊥
 IsSilent causes.Folder = ⊥
 IsSilent causes.Special = ⊥
 IsSilent cause = Unit {0}
 
--- why a disk was not locked
+-- why a disk could not be locked
 abbrev pub IsUnlocked : Folders → Folders → FileFault → Type 0
 IsUnlocked old new faults.Memory = Unit {0}
 IsUnlocked old new faults.Busy = new.refused ≡ old.refused + 1
 IsUnlocked old new (faults.Device cause) = (new.refused ≡ old.refused) × IsSilent cause × (old.failed < new.failed)
 IsUnlocked old new fault = ⊥
 
--- a disk was locked, and its companion looked at; or it was not
+-- a disk was locked and its companion was looked at; or it was not locked
 pub record TakesLock {T : Type 0} (path : List ℕ) (seen : T → List ℕ) (result : Result T FileFault) (old new : Folders) : Type 0 where
   pub mid : Places
   pub made : MakesBoth path old.places mid
@@ -76,17 +76,17 @@ pub record TakesLock {T : Type 0} (path : List ℕ) (seen : T → List ℕ) (res
   pub locked : IfOk result (λ f. (found_at mid path ≡ file (seen f)) × GoesAhead old new)
   pub cause : IfErr result (IsUnlocked old new)
 
--- why a file that was locked is none of a disk, though it was measured: a call of it failed, or an answer was wrong
+-- why a locked file is not fit to be a disk's: an answer was wrong, a call failed, or it does not have the length of a disk
 pub record IsUnfit {D : Type 0} (is_clean : D → Bool) (failures : D → ℕ) (seen : D → List ℕ) (before : D) : Type 0 where
   pub after : D
   pub cause : IsTrue (is_clean after) → IsTrue (is_clean before) × ((0 < failures after) ⊎ (length (seen before) ≡ disk_length → ⊥))
 
--- the fault of such a file
+-- the fault for such a file
 abbrev pub IsUnstarted : Type 0 → FileFault → Type 0
 IsUnstarted Unfit faults.Memory = Unit {0}
 IsUnstarted Unfit (faults.Device cause) = IsSilent cause × Unfit
 IsUnstarted Unfit fault = ⊥
 
--- a file that was not filled: unless its sync failed, or its setting back too, it is as it was
+-- a file that could not be filled is unchanged, unless its sync failed, or setting its length back failed too
 abbrev pub IsSetBack : {D : Type 0} → (D → List ℕ) → (D → Bool) → (D → ℕ) → D → D → Type 0
 IsSetBack seen is_usable failures old new = IsTrue (is_usable new) → failures old ≡ 0 → (seen new ≡ seen old) ⊎ (1 < failures new)

@@ -1,4 +1,4 @@
--- What a stored disk holds and has held.
+-- The trail and the history of a disk over a file.
 use Rattle.std.specs.Prelude.{◌≡◌, ◌+◌, ◌⊎◌, Bool, true, false, ℕ, IsTrue, List, Result, IsErr, OnOk, OnErr, length, map, slice_index}
 use Rattle.sqlite_disk.specs.Disk.{MoreFaults}
 use Rattle.sqlite_disk.specs.declared.Disk.{Ghosts}
@@ -20,27 +20,27 @@ pub record IsZeroed (bytes : List ℕ) : Type 0 where
   pub zero : (k : ℕ) → slice_index bytes k ≡ 0
 
 module _ {D : Type 0} {g : Ghosts D} where
-  -- what its file was at each moment before it began to be a disk, the latest first
+  -- what its file was at each moment before it became a disk, the latest first
   abbrev pub opening_moments : Stored D g → List D
   opening_moments d = items d.opening
 
-  -- a stop before that may have left this, as far as all answers of the file were right
+  -- all answers of the file were right, and a stop before it became a disk can have left this
   abbrev pub IsLeftOpening : Stored D g → List ℕ → Type 0
   IsLeftOpening d c = IsTrue (g.is_clean d.held.file) × IsLeftAt g.may_leave (opening_moments d) c
 
-  -- its file
+  -- the file of the disk
   abbrev pub stored_file : Stored D g → D
   stored_file d = d.held.file
 
-  -- how many calls of its file have failed, as the record of these calls says
+  -- how many calls of its file have failed, according to the record of these calls
   abbrev pub stored_faults : Stored D g → ℕ
   stored_faults d = g.faults d.held.file
 
-  -- how often it has failed: the failed calls of its file, and the calls that it refused once it was over
+  -- how many calls of the disk have failed: the failed calls of its file, and the calls that it refused once it was over
   abbrev pub stored_failures : Stored D g → ℕ
   stored_failures d = stored_faults d + d.refusals
 
-  -- since it was opened; it is honest while no answer of the file was wrong
+  -- the history since the disk was opened; it is honest while no answer of the file was wrong
   abbrev pub stored_history : Stored D g → History
   stored_history d = record {
     honest = g.is_clean d.held.file;
@@ -48,23 +48,23 @@ module _ {D : Type 0} {g : Ghosts D} where
     trail = record { now = moment g.seen d.held; past = map (moment g.seen) (items d.before) };
   }
 
-  -- a write or a sync has failed
+  -- the disk is over: a write or a sync has failed
   abbrev pub is_over : Stored D g → Bool
   is_over d = d.is_over
 
-  -- a disk of which no call has failed
+  -- no call of the disk has failed
   pub record IsWhole (d : Stored D g) : Type 0 where
     pub failures : stored_failures d ≡ 0
     pub begun : is_over d ≡ false
 
-  -- A call of a disk that is over fails, and asks nothing of the file.
+  -- A call of a disk that is over fails and does not use the file.
   pub record StaysOver (old new : Stored D g) (result : Result (Unit {0}) DiskFault) : Type 0 where
     pub fails : IsErr result
     pub over : new.is_over ≡ true
     pub same : new.held.file ≡ old.held.file
 
-  -- What an answer says of the file: no call of it failed where this one succeeded, and this one fails
-  -- only where the disk was over, or a call of the file failed.
+  -- What an answer says about the file: if the call succeeded, no call of the file failed. If it failed,
+  -- the disk was over or a call of the file failed.
   pub record Reports (old new : Stored D g) (result : Result (Unit {0}) DiskFault) : Type 0 where
     pub unfailed : OnOk result (stored_faults new ≡ stored_faults old)
     pub caused : OnErr result ((is_over old ≡ true) ⊎ MoreFaults (stored_faults old) (stored_faults new))

@@ -1,4 +1,4 @@
-//! The files that the program is given by name: texts and disks, and those in a folder.
+//! The texts and disks that the program is given by name, and those in a folder.
 ghost use Rattle.std.specs.Prelude.{◌≡◌, ℕ, List, Option, IfOk, ◌+◌, None, Some, MatchResult, option_map};
 ghost use Rattle.zh_film.specs.Past.{number};
 ghost use Rattle.zh_file.specs.Causes.{EndsAt};
@@ -15,28 +15,30 @@ use std::io::Read;
 use zh_disk::Disk;
 use zh_film::Past;
 
-/// Texts and disks, by their paths.
+/// Texts and disks by their paths.
 pub trait Files {
     ghost use Rattle.zh_file.specs.declared.fault.FileFault.{FileFault};
 
-    /// What reads a text.
+    /// The reader of a text.
     type Text: Read + Drop;
-    /// A disk. Code over any files cannot drop one: what it has opened it must hand over.
+    /// A disk. Code that is generic over files can't drop one: it must hand over what it has opened.
     type Disk: Disk;
-    /// The right to one disk. Code over any files can make none and copy none, so it opens one disk at most.
+    /// The right to one disk. Code that is generic over files can neither make nor copy one, so it opens at most as many disks as
+    /// it has rights.
     type Right: Drop;
 
-    /// The bytes of the text at this path, where they are known.
+    /// The bytes of the text at this path, if they are known.
     ghost text_at: { Self → List ℕ → Option (List ℕ) };
 
-    /// The bytes that the disk at this path begins with, where they are known; none of them where there is no disk.
+    /// The bytes with which the disk at this path begins, if they are known; empty if there is no disk.
     ghost disk_at: { Self → List ℕ → Option (List ℕ) };
 
-    /// What stands where, if it is known: as it was found or left, apart from what is written through the disks that were opened.
+    /// What is at each path, if that is known: as it was found or left, except for what is written through the disks that were
+    /// opened.
     ghost places: { Self → Option Places };
 
-    /// What a stop may have left of a disk's file that was opened and is no disk, at any moment since its lock, as far as all of
-    /// its answers were right.
+    /// What a stop can have left of a file that was locked but did not become a disk, at any moment since its lock, if all of its
+    /// answers were right.
     ghost left: { Self → List ℕ → Type 0 };
 
     /// How many calls were made.
@@ -48,7 +50,7 @@ pub trait Files {
     /// The calls of the system that failed, the latest first.
     ghost failed: { Self → List FailedCall };
 
-    /// The text at this path, from its first byte.
+    /// Opens the text at this path, from its first byte.
     fn text(&mut self, path: &str) -> Result<Self::Text, FileFault>
         ensures call { IsReadOfFiles text_at disk_at places calls self.old self.new }
         ensures leaves { LeavesNoMore (left self.old) (left self.new) }
@@ -56,7 +58,7 @@ pub trait Files {
         ensures meets { Meets path.now result (failed self.old) (failed self.new) }
         ensures bytes { IfOk result (λ text. Self.Text.remaining text ≡ text_at self.old path.now) };
 
-    /// The disk at this path.
+    /// Opens the disk at this path.
     fn disk(&mut self, right: Self::Right, path: &str) -> Result<Self::Disk, FileFault>
         ensures call { IsCallOfFiles text_at disk_at calls self.old self.new }
         ensures touches { IfKnown (TouchesOnly path.now) (places self.old) (places self.new) }
@@ -65,7 +67,7 @@ pub trait Files {
         ensures meets { Meets path.now result (failed self.old) (failed self.new) }
         ensures begins { IfOk result (λ disk. Begins (disk_at self.old path.now) (Self.Disk.history disk)) };
 
-    /// The disk at this path. Where there is none, it is made, of zeros.
+    /// Opens the disk at this path. If there is none, makes one of zeros.
     fn disk_or_make(&mut self, right: Self::Right, path: &str) -> Result<Self::Disk, FileFault>
         ensures call { IsCallOfFiles text_at disk_at calls self.old self.new }
         ensures touches { IfKnown (TouchesOnly path.now) (places self.old) (places self.new) }
@@ -81,12 +83,12 @@ pub struct FolderFiles<F: Folder + Drop> {
     folder: F,
     // how many disks were asked for
     disks: Past<()>,
-    // how the last call failed
+    // the fault of the last call, if it failed
     fault: Option<FileFault>,
 }
 
 impl<F: Folder + Drop> FolderFiles<F> {
-    /// Those of this folder.
+    /// The files of this folder.
     pub fn new(folder: F) -> FolderFiles<F>
         ensures folder { result.folder ≡ folder }
         ensures unmade { number result.disks ≡ 0 }
@@ -100,7 +102,7 @@ impl<F: Folder + Drop> FolderFiles<F> {
     }
 }
 
-/// How a call ended, which is noted.
+/// Notes how a call ended, and returns its result.
 fn noted<T>(fault: &mut Option<FileFault>, opened: Result<T, FileFault>) -> Result<T, FileFault>
     ensures same { result ≡ opened }
     ensures noted { MatchResult result (λ _. fault.new ≡ None) (λ met. fault.new ≡ Some met) }
@@ -132,7 +134,7 @@ impl<F: Folder + Drop> Files for FolderFiles<F> {
 
     ghost left = { λ files. F.left files.folder };
 
-    // Texts are counted where they are asked for.
+    // The folder counts how often a text was asked for.
     ghost calls = { λ files. number files.disks + F.texts files.folder };
 
     ghost fault = { λ files. files.fault };

@@ -1,4 +1,4 @@
-//! What is asked of a locked file, and done to it, before it is a disk.
+//! Measuring and filling a locked file before it becomes a disk.
 ghost use Rattle.std.specs.Prelude.{◌≡◌, ◌⊎◌, ◌<◌, ℕ, List, [], length, IfErr, IfOk, IsTrue, slice_index};
 ghost use Rattle.std.specs.IoError.{error_kind};
 ghost use Rattle.sqlite_disk.specs.Disk.{Only};
@@ -16,10 +16,10 @@ use sqlite_disk::Disk as File;
 use std::io;
 use zh_disk::DISK_LENGTH;
 
-/// How many bytes are written at once.
+/// The length in bytes of a block, which is written in one call.
 const BLOCK: usize = 9_728;
 
-/// So many blocks make a disk.
+/// The number of blocks in a disk.
 const BLOCKS: usize = 115;
 
 /// A block of zeros.
@@ -49,7 +49,7 @@ fn write_blocks<D: File>(locked: &mut Locked<D>, zeros: &[u8]) -> io::Result<()>
     Ok(())
 }
 
-/// Gives an empty file the length of a disk, and writes zeros over all of it: where the volume has no room for them it says so
+/// Gives a file the length of a disk, writes zeros over all of it, and syncs it. If the volume has no room for them, this fails
 /// here, and not when a command is stored.
 pub(crate) fn take_space<D: File>(locked: &mut Locked<D>) -> io::Result<()>
     requires { IsTrue (D.is_usable locked.old.file) }
@@ -68,7 +68,7 @@ pub(crate) fn take_space<D: File>(locked: &mut Locked<D>) -> io::Result<()>
 }
 
 impl<D: File> Locked<D> {
-    /// Whether it has the length of a disk, as it had when it was locked.
+    /// Checks that the file has the length of a disk, now that it is locked.
     pub(crate) fn measure(&mut self) -> Result<(), FileFault>
         requires { IsTrue (D.is_usable self.old.file) }
         ensures kept { IsTrue (D.is_clean self.new.file) → IsTrue (D.is_clean self.old.file) }
@@ -91,8 +91,8 @@ impl<D: File> Locked<D> {
         Ok(())
     }
 
-    /// Fills it with zeros if it is empty. Where that fails it is set back, so that it can be filled another time: unless the sync
-    /// failed, after which nothing is asked of a file. One that has bytes keeps them at each moment.
+    /// Fills the file with zeros if it is empty. If that fails, sets its length back to 0, so that it can be filled another time,
+    /// unless the sync failed: after that the file must not be used. A file that is not empty keeps its bytes at each moment.
     pub(crate) fn fill(&mut self) -> io::Result<()>
         requires usable { IsTrue (D.is_usable self.old.file) }
         requires synced { Only (D.seen self.old.file) (D.may_leave self.old.file) }

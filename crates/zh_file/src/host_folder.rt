@@ -17,10 +17,10 @@ use std::marker::PhantomData;
 use std::os::unix::fs::OpenOptionsExt;
 use zh_film::Past;
 
-/// The folders of the operating system. That each method does what [`Folder`] says is believed: the clauses are proved for
-/// every folder, and of this one no content is known.
+/// The folders of the operating system. That each method does what [`Folder`] says must be believed: the clauses are proved
+/// for every folder, but no contents of this one are known.
 ///
-/// `S` stands for what the file of the disk holds. Its value is the right to that disk, and is used up.
+/// `S` stands for what the file of the disk holds. A value of it is the right to that disk, and a lock uses it up.
 #[derive(Drop)]
 pub struct HostFolder<'a, S: Start> {
     rt: &'a HostRuntime,
@@ -32,7 +32,7 @@ pub struct HostFolder<'a, S: Start> {
 }
 
 impl<'a, S: Start> HostFolder<'a, S> {
-    /// The folders of this runtime.
+    /// The folders of this runtime, with nothing noted.
     pub fn new(rt: &'a HostRuntime) -> HostFolder<'a, S> {
         HostFolder {
             rt,
@@ -43,7 +43,7 @@ impl<'a, S: Start> HostFolder<'a, S> {
     }
 }
 
-/// What stands at this path.
+/// What is at this path.
 fn kind_at(rt: &HostRuntime, path: &str) -> io::Result<Found> {
     let found = fs::metadata(rt, path)?;
     Ok(if found.is_file() {
@@ -61,7 +61,7 @@ fn companion_at(rt: &HostRuntime, path: &str) -> io::Result<String> {
     Ok(format!(in rt.alloc(); "{}-wal", real.as_str())?)
 }
 
-/// The text at this path. The system opens a folder, and only a read of it fails.
+/// Opens the text at this path. Fails for a folder, which the system would open, so that only a read would fail.
 fn text_at(rt: &HostRuntime, path: &str) -> io::Result<File> {
     let text = File::open(rt, path)?;
     if text.metadata()?.is_dir() {
@@ -70,7 +70,7 @@ fn text_at(rt: &HostRuntime, path: &str) -> io::Result<File> {
     Ok(text)
 }
 
-/// Makes an empty file, for its owner alone, if nothing stands at this path.
+/// Makes an empty file, for its owner alone, if there is nothing at this path.
 fn make_at(rt: &HostRuntime, path: &str) -> io::Result<()> {
     let made = OpenOptions::new()
         .read(true)

@@ -1,4 +1,4 @@
-//! What is known of the disk that `main` has the program hand over, at just its type, and of the files that gave it.
+//! What is known of the disk that the program hands over to `main`, at exactly its type, and of the files that gave it.
 ghost use Rattle.std.specs.Prelude.{◌≡◌, ◌↔◌, ◌+◌, ℕ, List, Some, None, option_map};
 ghost use Rattle.sqlite_disk.specs.Events.{replay};
 ghost use Rattle.sqlite_disk.specs.History.{MayLeave};
@@ -19,9 +19,9 @@ use zh_disk::Disk;
 /// A disk in the folders of the operating system.
 type HostDisk<'a, S> = <FolderFiles<HostFolder<'a, S>> as Files>::Disk;
 
-/// Its file, which is the library's. The disk is honest exactly as long as the calls that this file has recorded, with their
-/// answers, are those of a file that held what `S` says of it; and it has the bytes, and a stop leaves of it what follows from
-/// them. `S` says of the companion, which has the same type, what that held.
+/// Its file, which is the library's. Replay the calls that this file has recorded, with their answers, from what `S` says that
+/// it held: the disk is honest exactly if the replay is, has the bytes that the replay gives, and a stop can leave of it what
+/// the replay says. (For the companion, which has the same type, `S` says what that held.)
 pub fn honest_as_replayed<'a, S: Start>(disk: HostDisk<'a, S>) -> FileOf<S>
     ensures honest { (⟦<HostDisk<'a, S> as Disk>⟧.history disk).honest
         ≡ (replay (start_of S.Start result) (⟦<Host as Calls>⟧.history (calls_of result))).is_honest }
@@ -34,7 +34,7 @@ pub fn honest_as_replayed<'a, S: Start>(disk: HostDisk<'a, S>) -> FileOf<S>
     disk.into_file()
 }
 
-/// What is known of the files in a folder is what is known of the folder, and nothing is left out.
+/// What is known of the files in a folder is exactly what is known of the folder.
 pub fn files_of_a_folder<F: Folder + Drop>(files: &FolderFiles<F>)
     ensures same { (⟦<FolderFiles<F> as Files>⟧.text_at files.now ≡ bytes_known (F.known files.now.folder))
         × (⟦<FolderFiles<F> as Files>⟧.disk_at files.now ≡ F.disk_at files.now.folder)
@@ -44,8 +44,8 @@ pub fn files_of_a_folder<F: Folder + Drop>(files: &FolderFiles<F>)
     ensures left { (c : List ℕ) → ⟦<FolderFiles<F> as Files>⟧.left files.now c ↔ F.left files.now.folder c }
 {}
 
-/// Of those of the operating system it is what they have noted: which calls failed, and what a stop may have left of a file that
-/// was unlocked. A disk begins with what `S` says that its file held; of texts, and of what stands where, nothing is known.
+/// What is known of the files of the operating system is what was noted: which calls failed, and what a stop can have left of a
+/// file that was unlocked. A disk begins with what `S` says that its file held. Nothing is known of texts, or of what is at a path.
 pub fn host_files_as_noted<'a, S: Start>(files: &FolderFiles<HostFolder<'a, S>>)
     ensures { (⟦<FolderFiles<HostFolder<'a, S>> as Files>⟧.failed files.now
         ≡ failed_among ⟦<FileOf<S> as sqlite_disk::Disk>⟧ (items files.now.folder.notes))

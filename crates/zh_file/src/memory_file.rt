@@ -10,10 +10,10 @@ use std::alloc::Global;
 use std::io;
 use zh_disk::{DISK_LENGTH, Disk, MemoryDisk};
 
-/// A file in memory. So many calls pass, and then each one fails.
+/// A file in memory. A given number of calls pass, and then each call fails.
 ///
-/// Beside it stands the device of a file that has the length of a disk, on which a stop may be tried. A write that fails has
-/// reached it.
+/// If the file has the length of a disk, it also has a device, on which a stop can be tried. A write that fails still reaches
+/// the device.
 #[derive(Drop)]
 pub struct MemoryFile {
     alloc: Global,
@@ -21,7 +21,7 @@ pub struct MemoryFile {
     device: Option<MemoryDisk>,
 }
 
-/// The device of a file with these bytes, as it is synced.
+/// The device of a file with these bytes, synced. `None` if they do not have the length of a disk, or if memory is refused.
 fn device_of(alloc: Global, bytes: &[u8]) -> Option<MemoryDisk> {
     if bytes.len() as u64 != DISK_LENGTH {
         return None;
@@ -29,7 +29,7 @@ fn device_of(alloc: Global, bytes: &[u8]) -> Option<MemoryDisk> {
     MemoryDisk::new(alloc, bytes).ok()
 }
 
-/// Writes to the device, if the bytes fit there.
+/// Writes to the device, if there is one and the bytes fit.
 fn reach(device: &mut Option<MemoryDisk>, at: usize, bytes: &[u8]) {
     let (at, length) = (at as u64, bytes.len() as u64);
     let fits = length <= DISK_LENGTH && at <= DISK_LENGTH - length;
@@ -41,7 +41,7 @@ fn reach(device: &mut Option<MemoryDisk>, at: usize, bytes: &[u8]) {
 }
 
 impl MemoryFile {
-    /// A file as it is synced, of which so many calls pass.
+    /// A synced file of which this many calls pass.
     pub(crate) fn new(alloc: Global, file: Memory, calls: u64) -> MemoryFile
         ensures file { inner_of (file_of result) ≡ file }
         ensures fresh { IsFresh (file_of result) }
@@ -55,7 +55,7 @@ impl MemoryFile {
         }
     }
 
-    /// The device, with what a stop may still take from it.
+    /// The device, with the writes that a stop can still undo.
     pub fn into_disk(self) -> Option<MemoryDisk> {
         self.device
     }

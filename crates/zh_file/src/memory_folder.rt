@@ -19,7 +19,7 @@ use std::io::{self, ErrorKind};
 use std::marker::PhantomData;
 use zh_film::Past;
 
-/// What stands at a path.
+/// What is at a path.
 #[derive(Drop)]
 pub enum Stood {
     File(Vec<u8>),
@@ -27,26 +27,26 @@ pub enum Stood {
     Nothing,
 }
 
-/// A path, and what stands there.
+/// A path and what is there.
 #[derive(Drop)]
 pub struct Placed {
     path: String,
     stood: Stood,
 }
 
-/// A folder in memory, without links. So many calls pass, and then each one fails.
+/// A folder in memory, without links. A given number of calls pass, and then each call fails.
 #[derive(Drop)]
 pub struct MemoryFolder<R> {
     alloc: Global,
     // the latest first
     placed: Vec<Placed>,
-    /// How many calls pass.
+    /// How many more calls at paths pass.
     pub calls: u64,
-    /// How many reads of a text pass.
+    /// How many reads of each text pass.
     pub reads: u64,
-    /// How many calls of a file pass.
+    /// How many calls of each file pass.
     pub file_calls: u64,
-    /// Another has the lock of each disk.
+    /// Whether the lock of each disk is held elsewhere.
     pub is_busy: bool,
     // how many calls failed, and how many locks were refused
     failed: Past<()>,
@@ -55,11 +55,11 @@ pub struct MemoryFolder<R> {
     notes: Past<Note<MemoryFile>>,
     // how often a text was asked for
     asked: Past<()>,
-    // what the right to a disk is
+    // the type of the right to a disk
     right: PhantomData<R>,
 }
 
-/// What was placed at this path, of several the first.
+/// What was put at this path: the first entry if there are several.
 fn stood_at<'a>(all: &'a [Placed], path: &str) -> Option<&'a Stood>
     ensures { MatchOption result (placed_at all.now path.now ≡ nothing) (λ stood. placed_at all.now path.now ≡ stood_as stood.now) }
 {
@@ -71,7 +71,7 @@ fn stood_at<'a>(all: &'a [Placed], path: &str) -> Option<&'a Stood>
 }
 
 impl<R> MemoryFolder<R> {
-    /// Where nothing stands. So many calls pass that none of a test fails.
+    /// An empty folder. So many calls pass that no call of a test fails.
     pub fn new(alloc: Global) -> MemoryFolder<R>
         ensures empty { (path : List ℕ) → standing_at result path ≡ nothing }
         ensures passing { (result.calls ≡ 2 ^ 64 - 1) × (result.reads ≡ 2 ^ 64 - 1) × (result.file_calls ≡ 2 ^ 64 - 1) }
@@ -91,7 +91,7 @@ impl<R> MemoryFolder<R> {
         }
     }
 
-    /// Puts this at a path, in place of what stands there.
+    /// Puts this at a path in place of what is there.
     pub fn put(&mut self, path: &str, stood: Stood) -> Result<(), AllocError>
         ensures put { OnOk result (PutsAt path.now (stood_as stood) self.old self.new) }
         ensures rest { self.new ≡ record self.old { placed = self.new.placed } }
@@ -102,7 +102,7 @@ impl<R> MemoryFolder<R> {
         Ok(())
     }
 
-    /// The length of the file at this path.
+    /// The length of the file at this path. `None` if there is none.
     pub fn length_at(&self, path: &str) -> Option<u64>
         ensures { MatchOption result ((bytes : List ℕ) → standing_at self.now path.now ≢ filed bytes)
             (λ n. (bytes : List ℕ) × (standing_at self.now path.now ≡ filed bytes) × (n ≡ length bytes)) }
@@ -127,14 +127,14 @@ impl<R> MemoryFolder<R> {
         }
     }
 
-    /// Whether nothing stands at this path.
+    /// Whether there is nothing at this path.
     fn is_free(&self, path: &str) -> bool
         ensures { IsTrue result ↔ (standing_at self.now path.now ≡ nothing) }
     {
         matches!(stood_at(&self.placed, path), None | Some(Stood::Nothing))
     }
 
-    /// Makes an empty file, if nothing stands at this path.
+    /// Makes an empty file if there is nothing at this path.
     fn place(&mut self, path: &str) -> Result<(), AllocError>
         ensures made { IsSameOrMade (standing_at self.old path.now) (standing_at self.new path.now) }
         ensures others { (place : List ℕ) → place ≢ path.now → standing_at self.new place ≡ standing_at self.old place }
@@ -147,7 +147,7 @@ impl<R> MemoryFolder<R> {
         Ok(())
     }
 
-    /// The file at this path as it is synced.
+    /// The file at this path, synced.
     fn file_at(&self, path: &str) -> io::Result<MemoryFile>
         ensures bytes { IfOk result (λ file. standing_at self.now path.now ≡ filed (⟦<MemoryFile as File>⟧.seen file)) }
         ensures usable { IfOk result (λ file. IsTrue (⟦<MemoryFile as File>⟧.is_usable file)) }
@@ -162,7 +162,7 @@ impl<R> MemoryFolder<R> {
         Ok(MemoryFile::new(self.alloc, file, self.file_calls))
     }
 
-    /// The companion's path.
+    /// The path of the companion.
     fn beside(&self, path: &str) -> Result<String, AllocError>
         ensures { IfOk result (λ name. string_bytes name ≡ path.now ++ codes "-wal") }
     {

@@ -5,7 +5,7 @@ ghost use Rattle.std.specs.Io.KnownBytes.{ReadConsumes};
 
 use std::io::{Cursor, ErrorKind, Read, Result};
 
-/// A text in memory. So many reads pass, and then each one fails.
+/// A text in memory. A given number of reads pass, and then each read fails.
 #[derive(Drop)]
 pub struct MemoryText {
     pub(crate) text: Cursor<Vec<u8>>,

@@ -1,4 +1,4 @@
-//! What is noted of a folder, which only clauses read: the calls that failed, and the files that were unlocked.
+//! The notes of a folder, which only clauses read: the calls that failed and the files that were unlocked.
 ghost use Rattle.std.specs.Prelude.{◌≡◌, ◌∷◌};
 ghost use Rattle.zh_film.specs.Past.{items};
 ghost use Rattle.zh_file.specs.Failures.{failed_call, asked_with, locked_with};
@@ -13,31 +13,31 @@ use std::io::{self, ErrorKind};
 use std::snapshot::Snapshot;
 use zh_film::Past;
 
-/// What a call came to that failed.
+/// How a call failed.
 #[derive(Drop)]
 pub enum Setback {
     /// An error of a call at a path.
     Asked(ErrorKind),
-    /// An error of the locking of a disk.
+    /// An error of locking a disk.
     Locking(ErrorKind),
-    /// An error of a call of a disk's file, once that is locked.
+    /// An error of a call of a disk's file after it was locked.
     Used(ErrorKind),
-    /// Another has the lock.
+    /// The lock is held elsewhere.
     Busy,
-    /// A journal that another program left is beside the file.
+    /// A journal that another program left is next to the file.
     Journal,
-    /// Its locked file has not the length of a disk, or gave a wrong answer.
+    /// The locked file does not have the length of a disk, or it gave a wrong answer.
     Unfit,
 }
 
-/// A call that failed: its path, and what it came to.
+/// A call that failed: its path, and how it failed.
 #[derive(Drop)]
 pub struct Failure {
     path: Past<u8>,
     setback: Setback,
 }
 
-/// The bytes of a path.
+/// The bytes of a path, as they are noted.
 pub(crate) fn noted_path(path: &[u8]) -> Past<u8>
     ensures { items result ≡ path.now }
 {
@@ -49,7 +49,7 @@ pub(crate) fn noted_path(path: &[u8]) -> Past<u8>
 }
 
 impl Failure {
-    /// One at this path.
+    /// A failed call at this path.
     pub fn at(path: &str, setback: Setback) -> Failure
         ensures { failed_call result ≡ record { path = path.now; setback = setback } }
     {
@@ -60,16 +60,16 @@ impl Failure {
     }
 }
 
-/// What is noted of a folder.
+/// A note of a folder.
 #[derive(Drop)]
 pub(crate) enum Note<D: File> {
     /// A call failed.
     Failed(Failure),
-    /// The file at this path was unlocked, as it was then.
+    /// The file at this path was unlocked. It is noted as it was then.
     Unlocked(Past<u8>, Locked<D>),
 }
 
-/// Notes a call at this path, where it failed.
+/// Notes a call at this path if it failed.
 pub(crate) fn note_call<D: File + Drop, T>(
     notes: &mut Past<Note<D>>,
     path: &str,
@@ -85,7 +85,7 @@ pub(crate) fn note_call<D: File + Drop, T>(
     }
 }
 
-/// What a lock came to that failed.
+/// How a lock failed.
 fn setback_of(error: &OpenError) -> Setback
     ensures { result ≡ locked_with error.now }
 {
@@ -97,7 +97,7 @@ fn setback_of(error: &OpenError) -> Setback
     }
 }
 
-/// Notes a lock at this path, where it failed.
+/// Notes a lock at this path if it failed.
 pub(crate) fn note_lock<D: File + Drop, T>(
     notes: &mut Past<Note<D>>,
     path: &str,
@@ -113,7 +113,7 @@ pub(crate) fn note_lock<D: File + Drop, T>(
     }
 }
 
-/// Notes a file that is unlocked.
+/// Notes a file at this path that is unlocked.
 pub(crate) fn note_unlocked<D: File + Drop>(
     notes: &mut Past<Note<D>>,
     path: &str,

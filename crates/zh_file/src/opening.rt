@@ -1,4 +1,4 @@
-//! A disk over the file at a path of a folder.
+//! Opening a disk over the file at a path of a folder.
 ghost use Rattle.std.specs.Prelude.{◌≡◌, ◌↔◌, ◌⊎◌, ℕ, List, length, false, IfErr, IfOk, IfSome, IsTrue};
 ghost use Rattle.sqlite_disk.specs.Disk.{Only};
 ghost use Rattle.zh_disk.specs.Disk.{disk_length, fresh_trail};
@@ -17,7 +17,7 @@ use crate::stored::{Locked, Stored};
 use std::io;
 use zh_disk::DISK_LENGTH;
 
-/// Opens the file at this path, which has [`DISK_LENGTH`] bytes, for this program alone.
+/// Opens the file at this path as a disk, for this program alone. Fails if it does not have [`DISK_LENGTH`] bytes.
 pub fn open<F: Folder>(
     folder: &mut F,
     right: F::Right,
@@ -44,10 +44,10 @@ pub fn open<F: Folder>(
     hand_over(folder, path, locked)
 }
 
-/// Opens the file at this path as [`open`] does. Where there is none it makes one of zeros, for its
-/// owner alone.
+/// Opens the file at this path as [`open`] does. If there is none, makes one of zeros, for its owner
+/// alone.
 ///
-/// An empty file is taken for one that such a call began and was stopped in.
+/// An empty file is taken for one that such a call made before it was stopped, and is filled.
 pub fn open_or_make<F: Folder>(
     folder: &mut F,
     right: F::Right,
@@ -83,7 +83,7 @@ pub fn open_or_make<F: Folder>(
     }
 }
 
-/// The length of the regular file at this path, or where a link there leads.
+/// The length of the regular file at this path, after links are followed.
 fn length_at<F: Folder>(folder: &mut F, path: &str) -> Result<u64, FileFault>
     ensures rest { LeavesRest F.disk_at F.left F.texts folder.old folder.new }
     ensures meets { Meets path.now result (F.failed folder.old) (F.failed folder.new) }
@@ -97,7 +97,8 @@ fn length_at<F: Folder>(folder: &mut F, path: &str) -> Result<u64, FileFault>
     }
 }
 
-/// Opens and locks the file at this path. The device has what a read gives.
+/// Opens and locks the file at this path, and removes its companion if that is empty. After that the device has what a read
+/// gives.
 fn lock<F: Folder>(
     folder: &mut F,
     right: F::Right,
@@ -119,15 +120,15 @@ fn lock<F: Folder>(
     Ok(locked)
 }
 
-/// Whether it is a file without a byte.
+/// Whether this is an empty file.
 fn is_empty(found: Found) -> bool
     ensures { IsTrue result ↔ (found ≡ Found.File 0) }
 {
     matches!(found, Found::File(0))
 }
 
-/// Removes the companion, which the library makes beside the disk, if it is empty. Only the holder of the lock does so: where a
-/// stop comes first it stays, and the next opening removes it.
+/// Removes the companion, which the library makes next to the disk, if it is empty. Only the holder of the lock does so. If a
+/// stop comes first, the companion stays, and the next opening removes it.
 fn clear_companion<F: Folder>(folder: &mut F, path: &str, locked: &F::Companion) -> io::Result<()>
     requires { IfSome (F.known folder.old)
         (λ now. now.places.leads (companion_of now.places path.now) ≡ companion_of now.places path.now) }
@@ -145,7 +146,7 @@ fn clear_companion<F: Folder>(folder: &mut F, path: &str, locked: &F::Companion)
     Ok(())
 }
 
-/// The disk that a file holds which was locked, if it has the length of one. If not, it is unlocked.
+/// Makes a locked file a disk if it has the length of one. If not, unlocks it.
 fn hand_over<F: Folder>(
     folder: &mut F,
     path: &str,

@@ -1,4 +1,4 @@
-//! A disk over a file, as the trait of files has it.
+//! A disk over a file, which is of the library's trait `sqlite_disk::Disk`.
 mod locked;
 
 ghost use Rattle.std.specs.Prelude.{◌≡◌, ◌≤◌, ◌+◌, ◌||◌, ℕ, List, length, slice_index, true, false, is_ok, is_err, IsTrue, IsErr};
@@ -15,44 +15,44 @@ use std::snapshot::Snapshot;
 use zh_disk::{DISK_LENGTH, Disk, DiskFault};
 use zh_film::Past;
 
-/// A file, and the ranges that were written since its last sync, which only clauses read.
+/// A file, and the ranges that were written since its last sync. Only clauses read these.
 #[derive(Drop)]
 pub(crate) struct HeldFile<D: File> {
     pub(crate) file: D,
     pub(crate) written: Past<(u64, usize)>,
 }
 
-/// A disk over a file. Once a write or a sync has failed each call fails, and nothing more is asked of
-/// the file: a write that failed may have reached it, and a sync after one that failed does not report
-/// what was lost.
+/// A disk over a file. Once a write or a sync has failed, the disk is over: each call fails and does
+/// not use the file. The reason is that a failed write might have reached the file, and that a sync
+/// after a failed one does not report what was lost.
 #[derive(Drop)]
 pub struct Stored<D: File> {
     held: HeldFile<D>,
-    // what the file was at each moment from its lock on until it began to be a disk
+    // what the file was at each moment from its lock until it became a disk
     opening: Past<D>,
-    // what was held before each write and each sync that succeeded
+    // what was held before each write and before each sync that succeeded
     before: Past<HeldFile<D>>,
-    // a write or a sync has failed
+    // whether a write or a sync has failed
     is_over: bool,
-    // the calls since then, of which nothing was asked of the file
+    // the number of calls since then, which did not use the file
     refusals: u64,
     ghost usable: { is_over ≡ false → IsTrue (D.is_usable held.file) },
     ghost size: { IsTrue (D.is_clean held.file) → length (D.seen held.file) ≡ DISK_LENGTH },
-    // a stop may leave nothing else than the images of the moment
+    // a stop can leave only images of the present moment
     ghost sizes: { IsTrue (D.is_clean held.file) → (c : List ℕ) → D.may_leave held.file c → length c ≡ DISK_LENGTH },
     ghost same: { IsTrue (D.is_clean held.file) → (c : List ℕ) → D.may_leave held.file c → (k : ℕ)
         → IsSettled (items held.written) k → slice_index c k ≡ slice_index (D.seen held.file) k },
     ghost unrefused: { is_over ≡ false → refusals ≡ 0 },
 }
 
-/// A file of a kind that is known, which may be taken out of its disk. Code over any folder can't do so, and begin over with it:
-/// of a folder's file it knows no kind.
+/// A file of a known type, which can be taken out of its disk. Code that is generic over folders can't take a file out and begin
+/// over with it, because it does not know the type of the folder's files.
 pub trait KnownFile: File {}
 
 impl<D: KnownFile> Stored<D> {
     ghost use Rattle.zh_file.specs.Stored.{stored_file};
 
-    /// Its file.
+    /// Takes the file out of the disk.
     pub fn into_file(self) -> D
         ensures { result ≡ stored_file self }
     {
@@ -67,7 +67,7 @@ fn reported(done: io::Result<()>) -> Result<(), DiskFault>
     done.map_err(|_| DiskFault::Device)
 }
 
-/// The answer of a call of which nothing is asked of the file. It is counted.
+/// The answer of a call that is refused without using the file. The refusal is counted.
 fn refused(refusals: &mut u64) -> Result<(), DiskFault>
     ensures fails { IsErr result }
     ensures counts { Counts (is_err result) refusals.old refusals.new }

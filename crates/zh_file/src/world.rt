@@ -1,32 +1,32 @@
-//! What is outside of the program.
+//! Everything outside the program.
 
-/// What became of a remark, which a task makes beside its answer.
+/// What became of a remark, which a task makes in addition to its answer.
 #[derive(Clone, Copy, Debug, PartialEq, Eq)]
 pub enum Remark {
-    /// It is written.
+    /// It was written.
     Whole,
-    /// The writer failed under it.
+    /// The writer failed while it was written.
     Broken,
 }
 
 /// The streams and the files that a task is given.
 ///
-/// It has no bound, so that clauses read it as a plain record.
+/// The type has no bounds, so that clauses can read it as a plain record.
 #[derive(Drop)]
 pub struct World<I, O, E, F> {
     /// The lines to be answered.
     pub input: I,
-    /// What is answered.
+    /// The answers.
     pub output: O,
-    /// What is reported.
+    /// The reports of faults, and remarks.
     pub faults: E,
-    /// What became of the last remark to `faults`. It changes no status.
+    /// What became of the last remark to `faults`. It does not change the status.
     pub remark: Remark,
-    /// The texts and the disks, by their paths.
+    /// The texts and the disks by their paths.
     pub files: F,
 }
 
-/// How a task ended, and the disk that it has used, if it has opened one.
+/// How a task ended, and the disk that it used, if it opened one.
 #[derive(Drop)]
 pub struct Ended<T, D> {
     pub result: T,

@@ -3,11 +3,11 @@ use Rattle.std.specs.Prelude.{ℕ, List, [], ◌∷◌, length}
 use Rattle.zh_film.specs.declared.past.Past.{Past}
 use Rattle.zh_film.specs.declared.past.Past.TheVariants.{Start, After'}
 
--- the latest first
+-- the values, the latest first
 abbrev pub items : {T : Type 0} → Past T → List T
 items Start = []
 items (After' value shape before) = value.value ∷ items before
 
--- how many there are
+-- the number of values
 abbrev pub number : {T : Type 0} → Past T → ℕ
 number past = length (items past)

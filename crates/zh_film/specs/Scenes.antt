@@ -6,7 +6,7 @@ use Rattle.zh_film.specs.declared.kind.FrameKind.TheVariants.{Between, Ended, Fa
 use Rattle.zh_film.specs.declared.film.Film.{Film}
 use Rattle.zh_film.specs.declared.film.Scene.{Scene}
 
--- what is noted after a read: that it failed, or that it gave no byte, which is the end, or neither
+-- what is noted after a read: that it failed, that it gave no byte (the end of the input), or neither
 abbrev pub kind_after : {E : Type 0} → Result ℕ E → FrameKind
 kind_after (Ok count) = if count == 0 then Ended else Between
 kind_after (Err fault) = Failed
@@ -21,10 +21,10 @@ module _ {R W D : Type 0} where
     disk = record { marker = record {}; value = disk };
   }
 
-  -- the latest first
+  -- the scenes of a film, the latest first
   abbrev pub scenes : Film R W D → List (Scene R W D)
   scenes film = items film.scenes
 
-  -- what the reads that it made gave, the latest first
+  -- what the reads of a film gave, the latest first
   abbrev pub answers_noted : Film R W D → List FrameKind
   answers_noted film = items film.answers

@@ -1,4 +1,4 @@
-//! A film: what a reader, a writer and a disk were, time after time.
+//! A film: a record of what a reader, a writer and a disk were at successive times.
 ghost use Rattle.std.specs.Prelude.{◌≡◌, ◌∷◌, []};
 ghost use Rattle.std.specs.Io.{ReadsAtMost};
 ghost use Rattle.std.specs.Io.KnownBytes.{ReadConsumes};
@@ -11,7 +11,7 @@ use std::io;
 use std::io::Read;
 use std::snapshot::Snapshot;
 
-/// What is noted after a read that gave this.
+/// What is noted after a read with this result.
 fn kind_after(given: &io::Result<usize>) -> FrameKind
     ensures { result ≡ kind_after given.now }
 {
@@ -22,8 +22,8 @@ fn kind_after(given: &io::Result<usize>) -> FrameKind
     }
 }
 
-/// Reads once, and notes what that gave. That it is once, and that it gives what the reader gave, has to be believed: no
-/// clause of a reader speaks of it.
+/// Reads once, notes the result and returns it. That it reads only once and returns what the reader gave must be believed:
+/// no clause of a reader says so.
 fn ask<R: Read>(reader: &mut R, into: &mut [u8], answers: &mut Past<FrameKind>) -> io::Result<usize>
     ensures bound { ReadsAtMost result into.new }
     ensures bytes { ReadConsumes (R.remaining reader.old) (R.remaining reader.new) result into.new }
@@ -44,10 +44,10 @@ struct Scene<R, W, D> {
     disk: Snapshot<D>,
 }
 
-/// What a reader, a writer and a disk were, time after time.
+/// What a reader, a writer and a disk were at successive times.
 ///
-/// Each is noted while all three are at hand, and generic code has no second one of any. So a film can leave out a time,
-/// and shows none that was not.
+/// Each note takes all three at once, and generic code has only one of each. So a film can leave out a time, but it can't
+/// show one that never was.
 #[derive(Drop)]
 pub struct Film<R, W, D> {
     scenes: Past<Scene<R, W, D>>,
@@ -55,7 +55,7 @@ pub struct Film<R, W, D> {
 }
 
 impl<R, W, D> Film<R, W, D> {
-    /// Nothing is noted yet.
+    /// A film without notes.
     pub fn new() -> Film<R, W, D>
         ensures { scenes result ≡ [] }
     {
@@ -72,7 +72,7 @@ impl<R, W, D> Film<R, W, D> {
         self.add(FrameKind::Between, reader, writer, disk);
     }
 
-    /// Notes what the three are before a read, after one, or elsewhere.
+    /// Notes what the three are now. `kind` says whether that is before a read, after one, or at another time.
     fn add(&mut self, kind: FrameKind, reader: &R, writer: &W, disk: &D)
         ensures noted { scenes self.new ≡ scene kind reader.now writer.now disk.now ∷ scenes self.old }
         ensures unasked { answers_noted self.new ≡ answers_noted self.old }
@@ -86,7 +86,7 @@ impl<R, W, D> Film<R, W, D> {
         self.scenes.push(Snapshot::of(&scene));
     }
 
-    /// Reads once, and notes what the three are before the read and after it. A read that gives no byte is noted as the end.
+    /// Reads once and notes what the three are before and after the read. A read that gives no byte is noted as the end.
     pub fn read(
         &mut self,
         reader: &mut R,

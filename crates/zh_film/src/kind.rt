@@ -1,6 +1,6 @@
-//! What a frame stands before or after.
+//! Whether a frame was noted before or after a read.
 
-/// What is noted with a frame.
+/// Whether a frame was noted before or after a read.
 #[derive(Clone, Copy, Debug, PartialEq, Eq)]
 pub enum FrameKind {
     /// A read comes next.

@@ -1,4 +1,4 @@
-//! What only clauses read: a list of what was, and a film of a conversation.
+//! Values that only clauses read: a list of earlier values, and a film of a reader, a writer and a disk.
 #![tactic(auto)]
 
 mod film;

@@ -4,7 +4,7 @@ ghost use Rattle.zh_film.specs.Past.{items, number};
 
 use std::snapshot::Snapshot;
 
-/// Values, the latest first. When the program runs, only whether there are any is stored.
+/// A list of values, the latest first. The running program stores only whether the list is empty.
 #[derive(Drop)]
 pub enum Past<T> {
     Start,
@@ -12,14 +12,14 @@ pub enum Past<T> {
 }
 
 impl<T> Past<T> {
-    /// None.
+    /// The empty list.
     pub fn new() -> Past<T>
         ensures { items result ≡ [] }
     {
         Past::Start
     }
 
-    /// One more.
+    /// Adds a value.
     pub fn push(&mut self, value: Snapshot<T>)
         ensures { items self.new ≡ value.value ∷ items self.old }
     {
@@ -28,7 +28,7 @@ impl<T> Past<T> {
 }
 
 impl Past<()> {
-    /// One more, where only their number counts.
+    /// Adds an entry to a list of which only the length matters.
     pub fn add(&mut self)
         ensures { number self.new ≡ number self.old + 1 }
     {

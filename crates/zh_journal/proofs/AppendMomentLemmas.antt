@@ -1,4 +1,4 @@
--- The moments of a whole append: the pages behind their gates, then the gate of the first.
+-- The moments of a whole append: the pages except for their gates, then the gate of the first page.
 use Rattle.std.proofs.Common.{◌≡◌, inl, inr, ⊎_elim, ℕ, ◌+◌, ◌*◌, ◌≤◌, List, [], ◌∷◌, length, sym, ◌∙◌, ap, subst, arith, Ok, Err}
 use Rattle.std.specs.Prelude.{slice_index}
 use Rattle.zh_disk.specs.Disk.{Moment, Trail, IsImage, SameOutside, Moves, Leaves, splice}
@@ -14,7 +14,7 @@ use Rattle.zh_journal.proofs.AppendLemmas.{still, opening, opened}
 
 module _ (base j : ℕ) (r : List ℕ) (sized : HasSize r) (room : j + pages_of (length r) ≤ 1024) (t0 t1 : Trail) (long : base + 262144 ≤ length t0.now.bytes)
     (staging : Leaves (SameButBodies (base + 256 * j) (pages_of (length r))) t0 t1) where
-  -- of an image at the start
+  -- the length of an image at the start
   long_image : (d : List ℕ) → IsImage t0.now d → base + 262144 ≤ length d
   long_image d image = omega (arith, image.size)
 
@@ -43,7 +43,7 @@ module _ (base j : ℕ) (r : List ℕ) (sized : HasSize r) (room : j + pages_of 
       ∙ ap (slice_index (splice (base + 256 * j) (165 ∷ []) b)) (sym here) ∙ splice_inside (base + 256 * j) (165 ∷ []) b 0 fits (omega arith) in
       (came.0, came.1, opened base j r sized room came.0 b (long_image came.0 came.1) came.2 staged c same gate)
 
--- the pages alone are changed
+-- only the record's pages change
 module _ (at n : ℕ) (some : 1 ≤ n) (t0 t1 : Trail) (staging : Leaves (SameButBodies at n) t0 t1) where
   bodies_within : (d b : List ℕ) → SameButBodies at n d b → SameOutside at (256 * n) d b
   bodies_within d b by = record { size = by.size; same = λ k out. by.same k (λ x low. ⊎_elim (λ before. inl (omega arith)) (λ after. inr (omega arith)) out) }
@@ -62,7 +62,7 @@ module _ (at n : ℕ) (some : 1 ≤ n) (t0 t1 : Trail) (staging : Leaves (SameBu
       let same : SameOutside at 1 t1.now.bytes f = subst (λ (b : List ℕ). SameOutside at 1 b f) by.0 by.1 in
       (came.0, came.1, gate_within came.0 t1.now.bytes f (bodies_within came.0 t1.now.bytes came.2) same))
 
--- A whole append: one that failed at its pages, one that failed at its gate, and one that succeeded.
+-- A whole append that failed at its pages, that failed at its gate, or that succeeded.
 module _ (p : Place) (r : List ℕ) (sized : HasSize r) (room : p.end + pages_of (length r) ≤ 1024) (t0 t1 : Trail) (long : p.base + 262144 ≤ length t0.now.bytes) where
   pub append_staged : (d : DiskFault) (e : AppendFault) → Stages (p.base + 256 * p.end) r (Err d) t0 t1 → Appends p r (Err e) t0 t1
   append_staged d e staged = record {

@@ -1,4 +1,4 @@
--- Which answers are a fault of the device.
+-- Which answers report a device fault.
 use Rattle.std.specs.Prelude.{Bool, true, false, Result, Ok, Err}
 use Rattle.zh_journal.specs.declared.fault.AppendFault.{AppendFault}
 use Rattle.zh_journal.specs.declared.fault.AppendFault.TheVariants as append

@@ -1,4 +1,4 @@
-//! An area of records: a write-ahead log, in which each record counts from the moment that its gate is open.
+//! An area of records: a write-ahead log in which each record counts once its gate is open.
 ghost use Rattle.std.specs.Prelude.{◌≡◌, ◌+◌, ◌↔◌, ◌<◌, ◌≤◌, ℕ, length, slice_index, IfOk, OnOk, OnErr, IsErrOf, is_err, List, IfSome};
 ghost use Rattle.std.specs.Prelude.{IfNone};
 ghost use Rattle.zh_disk.specs.Disk.{Asks};
@@ -18,10 +18,10 @@ use crate::record::{find_page, read_record, stage};
 use std::marker::Model;
 use zh_disk::Disk;
 
-/// The records of one area of a disk, as they were found or written.
+/// The records of one area of a disk: where the area begins, the page at which its records end, and how many there are.
 ///
-/// The disk is handed to each call, and must be the one that the area was opened on. After a fault of the
-/// device the area is opened again.
+/// The disk is passed to each call and must be the one on which the area was opened. After a device fault, open the
+/// area again.
 #[derive(Drop)]
 pub struct Area {
     base: u64,
@@ -43,8 +43,8 @@ impl Model for Area {
 }
 
 impl Area {
-    /// Finds the records of the area that begins at this place. It reads the area once, into the caller's bytes, and
-    /// writes nothing.
+    /// Finds the records of the area that begins at this place. Reads the area once, into the caller's `pages`, and writes
+    /// nothing.
     pub fn open<D: Disk>(
         disk: &mut D,
         base: u64,
@@ -84,9 +84,9 @@ impl Area {
         AREA_PAGES - self.end
     }
 
-    /// Lends the payload of record `i`, counted from 0, from the caller's buffer. It reads the heads of the
-    /// records before it; `open` gives all of them in order. Where the disk gives no such record any more, the
-    /// payload is empty, as no record's is.
+    /// Reads the payload of record `i`, counted from 0, into the caller's buffer and returns that part of it. Finds it by
+    /// reading the heads of the records before it. (To go through all records, use the reader that `open` returns.) If the
+    /// disk no longer has this record, the payload returned is empty, which no record's payload is.
     pub fn record<'b, D: Disk>(
         &self,
         disk: &mut D,
@@ -108,8 +108,8 @@ impl Area {
         Ok(&buffer[..len as usize])
     }
 
-    /// Writes a record after the last one: bytes 1 to 255 of each of its pages, a sync, the gate of the first
-    /// page, a sync.
+    /// Appends a record: writes bytes 1 to 255 of each of its pages, syncs, opens the gate of its first page, and syncs
+    /// again.
     pub fn append<D: Disk>(&mut self, disk: &mut D, payload: &[u8]) -> Result<(), AppendFault>
         requires some { 1 ≤ length payload.now }
         requires most { length payload.now ≤ LONGEST_PAYLOAD }
@@ -134,8 +134,8 @@ impl Area {
         Ok(())
     }
 
-    /// Writes zeros over the area that begins at this place, and gives it without records. Until the caller has
-    /// synced, the disk may hold anything there: an outer gate stands closed meanwhile.
+    /// Writes zeros over the area that begins at this place and returns the area without records. Until the caller has
+    /// synced, the disk can hold anything there, so an outer gate must stay closed until then.
     pub fn clear<D: Disk>(disk: &mut D, base: u64, zeros: &[u8]) -> Result<Area, AreaFault>
         requires base { base + AREA_LENGTH ≤ DISK_LENGTH }
         requires size { length zeros.now ≡ AREA_LENGTH }
@@ -153,14 +153,14 @@ impl Area {
     }
 }
 
-/// The page at which the records end, and their number.
+/// The page at which the records end, and how many there are.
 #[derive(Clone, Copy)]
 pub(crate) struct Extent {
     pub(crate) end: u32,
     pub(crate) count: u32,
 }
 
-/// How far the records of these pages go, or nothing where a page is damaged.
+/// Where the records in these pages end, and how many there are. `None` if a page is damaged.
 pub(crate) fn extent_of(pages: &[u8]) -> Option<Extent>
     requires { length pages.now ≡ AREA_LENGTH }
 

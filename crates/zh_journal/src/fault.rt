@@ -1,16 +1,16 @@
-//! Why a call of an area is refused.
+//! The errors of the calls of an area.
 use thiserror::Error;
 use zh_disk::DiskFault;
 
-/// Why an area was not read or cleared.
+/// Why an area could not be read or cleared.
 pub type AreaFault = DiskFault;
 
-/// Why an area was not opened.
+/// Why an area could not be opened.
 #[derive(Clone, Copy, Debug, PartialEq, Eq, Error)]
 pub enum OpenFault {
     #[error("the device failed")]
     Device,
-    /// An open page breaks a rule of the format.
+    /// A first page with an open gate breaks a rule of the format.
     #[error("the area is damaged")]
     Damaged,
 }
@@ -26,7 +26,7 @@ impl From<DiskFault> for OpenFault {
     }
 }
 
-/// Why a record was not appended.
+/// Why a record could not be appended.
 #[derive(Clone, Copy, Debug, PartialEq, Eq, Error)]
 pub enum AppendFault {
     #[error("the device failed")]

@@ -1,7 +1,7 @@
 //! Records in one area of a disk, each with a gate.
 //!
-//! An area is 1,024 pages of 256 bytes. Byte 0 of a page is its gate, and a record counts once the gate of its
-//! first page is open on the disk. docs/FORMATS.md has the places, and the device calls one by one.
+//! An area is 1,024 pages of 256 bytes. Byte 0 of a page is its gate. A record counts once the gate of its first page
+//! is open on the disk. docs/FORMATS.md describes the layout and each disk call.
 #![tactic(auto)]
 
 mod area;

@@ -1,4 +1,4 @@
-//! A record on its pages: staged, all but its gates, and read to the caller's buffer.
+//! A record on its pages: staging, which writes everything except the gates, and reading into the caller's buffer.
 ghost use Rattle.std.specs.Prelude.{◌+◌, ◌*◌, ◌<◌, ◌≤◌, length, is_err, ◌≡◌, ℕ, slice_index, IfOk, OnOk};
 ghost use Rattle.zh_disk.specs.Disk.{Writes, Asks};
 ghost use Rattle.zh_disk.specs.History.{Call};
@@ -17,7 +17,7 @@ fn write_page<D: Disk>(disk: &mut D, at: u64, payload: &[u8], i: u32) -> Result<
     requires i { i < pages_of (length payload.now) }
     requires room { at + 256 * pages_of (length payload.now) ≤ DISK_LENGTH }
 
-    // It is one write, whatever the disk answers.
+    // This is one write, whatever the disk answers.
     ensures call { Call is_err (Writes (at + 256 * i + 1) (body_of payload.now i))
         (D.history disk.old) (D.history disk.new) result }
 {
@@ -25,7 +25,7 @@ fn write_page<D: Disk>(disk: &mut D, at: u64, payload: &[u8], i: u32) -> Result<
     disk.write_at(at + PAGE_LENGTH * (i as u64) + 1, &page)
 }
 
-/// Writes a record on the pages from this place on, all but their gates, one write a page.
+/// Writes a record to the pages from this place on, except for their gates, with one write for each page.
 pub(crate) fn stage<D: Disk>(disk: &mut D, at: u64, payload: &[u8]) -> Result<(), DiskFault>
     requires len { length payload.now ≤ LONGEST_PAYLOAD }
     requires room { at + 256 * pages_of (length payload.now) ≤ DISK_LENGTH }
@@ -38,8 +38,8 @@ pub(crate) fn stage<D: Disk>(disk: &mut D, at: u64, payload: &[u8]) -> Result<()
     Ok(())
 }
 
-/// Reads what page i of a record has of its payload. Byte k of a payload on page i stands at place
-/// 4 + k + i of the record: after three bytes of the head and the gates up to that of its page.
+/// Reads the part of the payload on page `i` of a record. Byte k of the payload, if it is on page i, is at
+/// place 4 + k + i of the record: after the three other bytes of the head and the gates of pages 0 to i.
 fn read_page<D: Disk>(
     disk: &mut D,
     at: u64,
@@ -65,7 +65,7 @@ fn read_page<D: Disk>(
     )
 }
 
-/// Reads the payload of the record at this place, whose head gives this length.
+/// Reads the payload of the record at this place, which has the length `len` by its head.
 fn read_payload<D: Disk>(
     disk: &mut D,
     at: u64,
@@ -85,8 +85,8 @@ fn read_payload<D: Disk>(
     Ok(())
 }
 
-/// Reads the record at this place, with so many pages left, and gives its length: 0 where no record stands
-/// there.
+/// Reads the payload of the record at this place, if there are `left` pages from there on. Returns its length, or
+/// 0 if there is no such record.
 pub(crate) fn read_record<D: Disk>(
     disk: &mut D,
     at: u64,
@@ -110,8 +110,8 @@ pub(crate) fn read_record<D: Disk>(
     Ok(len)
 }
 
-/// The page at which record i of the area at this base begins, by the heads of those before it. Where they are
-/// not heads of records, it is the end of the area.
+/// The page at which record `i` of the area at this base begins, found by reading the heads of the records before
+/// it. If one of these is not the head of a record, `AREA_PAGES`.
 pub(crate) fn find_page<D: Disk>(disk: &mut D, base: u64, i: u32) -> Result<u32, DiskFault>
     requires { base + AREA_LENGTH ≤ DISK_LENGTH }
 

@@ -1,4 +1,4 @@
--- What the crates above may use.
+-- The lemmas that crates above may use.
 pub use Rattle.zh_ledger.proofs.SubmissionLemmas.{has_none, none_logged, log_none, none_submitted, one_submitted, submits_honest, submits_logged, submission_logged}
 pub use Rattle.zh_ledger.proofs.StretchLemmas.{left_by, only_image}
 pub use Rattle.zh_ledger.proofs.NightLemmas.{SubmitsOneOrNone, Serves, night_law}

@@ -1,4 +1,4 @@
--- A holder that is given something, or stopped within it, in a night.
+-- A holder that is given something in a night and answers or is stopped.
 use Rattle.std.proofs.Common.{◌≡◌, ℕ, ◌+◌, ◌≤◌, List, ◌++◌, length, take, refl, sym, ◌∙◌, ap, subst, arith, length-append, Bool, true, false, Option, Some}
 use Rattle.std.specs.Prelude.{IfSome, IsTrue}
 use Rattle.std.proofs.lemmas.List.{take_all}
@@ -20,7 +20,7 @@ use Rattle.zh_ledger.proofs.SubmissionLemmas.{IsQuiet, broken_run, has_none, log
 use Rattle.zh_ledger.proofs.JudgedLemmas.{AreJudged, judged-append, judged_run, few_logged}
 use Rattle.zh_ledger.proofs.StretchLemmas.{left_by, count_of, IsSure, after_stop_sure, has_after, whole_run}
 
--- What it is given submits these commands to its ledger, or none; it is answered, or a stop comes within.
+-- What the holder is given submits these commands to its ledger, or none. Then it answers, or a stop comes before that.
 module _ (K : Keeper) (canton : Canton) (kept : List Command) (s : Stretch K) (whole_old : OnDisk K.Holder)
     (begins : s.holder ≡ Some whole_old.holder) (now : s.now ≡ whole_old.history.trail.now) (xs : List (Command × Outcome)) (log : Log)
     (whole_new : OnDisk K.Holder) (honest : IsTrue whole_new.history.honest)
@@ -57,11 +57,11 @@ module _ (K : Keeper) (canton : Canton) (kept : List Command) (s : Stretch K) (w
   judged_more whole = judged-append (count_of canton kept) s.log.accepted log.accepted sure.judged
       (subst (λ (t : Tally). AreJudged t log.accepted) (counts_all whole) (judged_run old xs log new honest run))
 
-  -- it is answered
+  -- the stretch after an answer
   abbrev pub then_is : Stretch K
   then_is = record { now = whole_new.history.trail.now; holder = Some whole_new.holder; log = followed_by s.log log }
 
-  -- a broken ledger counts what it counted
+  -- the stretch of a broken ledger, which counts the same as before
   abbrev then_broken : Stretch K
   then_broken = record { now = s.now; holder = Some whole_new.holder; log = s.log }
 
@@ -122,7 +122,7 @@ module _ (K : Keeper) (canton : Canton) (kept : List Command) (s : Stretch K) (w
       by_broken true is = answered_broken is
       by_broken false is = answered_whole is
 
-  -- it is stopped
+  -- the stretch after a stop
   abbrev then_stopped : List ℕ → Log → Stretch K
   then_stopped c more = after_stop c (followed_by s.log (unacknowledged more))
 

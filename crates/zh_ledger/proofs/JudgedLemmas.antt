@@ -49,7 +49,7 @@ judged_where : (broken : Bool) (s : Ledger) (c : Command) (outcome : Outcome) �
 judged_where true s c outcome may = subst (λ (o : Outcome). AreJudged s.tally (logged c o).accepted) (sym may) tt
 judged_where false s c outcome may = judged_verdict (judge s.tally c) s c outcome refl may
 
--- and the commands after it are judged from there
+-- the commands after it are judged from there on
 judged_then : (old mid : Ledger) (c : Command) (outcome : Outcome) (others : Log) → Becomes old c outcome mid
     → AreJudged old.tally (logged c outcome).accepted → (mid.store.broken ≡ true → others ≡ nothing) → AreJudged mid.tally others.accepted
     → AreJudged old.tally (followed_by (logged c outcome) others).accepted
@@ -65,7 +65,7 @@ judged_run old (x ∷ xs) log new honest (mid, others, by, log_is, run) =
     (λ broken. (broken_run mid xs others new broken honest run).none)
     (judged_run mid xs others new honest run))
 
--- a command adds one command at most
+-- a submission adds at most one command to the log
 one_logged : (c : Command) (outcome : Outcome) → length (logged c outcome).accepted ≤ 1
 one_logged c (Stored accepted) = omega arith
 one_logged c Device = omega arith

@@ -28,7 +28,7 @@ use Rattle.zh_ledger.specs.declared.outcome.Outcome.TheVariants.{Stored, Device}
 use Rattle.zh_ledger.proofs.OutsideLemmas.{within_journal}
 use Rattle.zh_ledger.proofs.RoomLemmas.{ready_already}
 
--- the count after one command more
+-- the count after one more command
 pub after_more : (tally : Tally) (cs : List Command) (c : Command) → after tally (cs ++ c ∷ []) ≡ step (after tally cs) c
 after_more tally [] c = refl
 after_more tally (d ∷ cs) c = after_more (step tally d) cs c
@@ -41,7 +41,7 @@ accepted_more tally (d ∷ cs) c each accept room = (each.0, (each.1.0, accepted
 pub speakable_more : (format : Format) (cs : List Command) (c : Command) → All (IsSpeakable format) cs → IsSpeakable format c → All (IsSpeakable format) (cs ++ c ∷ [])
 speakable_more format cs c each one = grind (arith, common_steps, All-append)
 
--- an accepted command leaves the set-up as it is
+-- an accepted command does not change the set-up
 pub step_canton : (tally : Tally) (command : Command) → judge tally command ≡ Accept → (step tally command).canton ≡ tally.canton
 step_canton tally command accept = ap (λ (v : Verdict). (on_verdict v (changed tally command) tally).canton) accept
 

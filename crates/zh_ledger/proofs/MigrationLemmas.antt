@@ -22,7 +22,7 @@ use Rattle.zh_ledger.proofs.OpenedLemmas.{one_image}
 use Rattle.zh_ledger.proofs.StandsLemmas.{one_count}
 use Rattle.zh_ledger.proofs.SwitchLemmas.{knows_switched, stands_anew}
 
--- a switch from a slot of format One, from a moment at which nothing is pending
+-- a switch from a slot in format One, at a moment at which nothing is pending
 module _ (tally : Tally) (store : State) (limits : IsTally tally) (t u : Trail) where
   migrates : store.generation ≢ 2 ^ 64 - 1 → IsAtRest (ledger_in One tally store) t.now → (x f : List ℕ) → IsImage t.now x
       → StoreSwitchesOrNot store (payload_spelling Two tally) x f → MayLeave tally.canton t.now.bytes x f
@@ -76,7 +76,7 @@ module _ (tally : Tally) (store : State) (limits : IsTally tally) (t u : Trail) 
         (Err fault) t u → MigratesFrom (ledger_in format tally store) store' (Err device) t u
     migrates_not store' fault device by = record { moments = moments by.moments; rests = λ rest. tt }
 
--- where nothing is to be migrated, or no switch is left
+-- if there is nothing to migrate, or no switch is left
 pub unmigrated : (format given : Format) (tally : Tally) (store store' : State) (t u : Trail) → given ≡ format → store' ≡ store → u ≡ t
     → MigratesFrom (ledger_in format tally store) store' (Ok given) t u
 unmigrated format given tally store store' t u same known still = record {
@@ -103,7 +103,7 @@ reads_then canton old mid new rests first second =
 pub reads_alone : (canton : Canton) (old new : Trail) → Leaves (Settles old.now.bytes) old new → Leaves (MayLeave canton old.now.bytes) old new
 reads_alone canton old new leaves = leaves_weaken (Settles old.now.bytes) (MayLeave canton old.now.bytes) old new (λ x f image by. (by.0, inl by.1)) leaves
 
--- what a migration makes of bytes that hold a count holds it
+-- if bytes hold a count, what a migration makes of them holds it too
 pub migrated_holds : (canton : Canton) (bytes new : List ℕ) (tally : Tally) → tally.canton ≡ canton → Holds tally bytes → Migrates canton bytes new → Holds tally new
 migrated_holds canton bytes new tally own holds m =
     let alike = framed_alike holds.content m.content holds.end m.end bytes holds.clean.framed m.framed in
@@ -130,7 +130,7 @@ pub leaves_altered : (canton : Canton) (old new : Trail) → Leaves (MayLeave ca
 leaves_altered canton old new leaves = leaves_weaken (MayLeave canton old.now.bytes) (Alters canton old.now.bytes) old new
     (λ x f image by. ⊎_elim (λ still. inl (still ∙ sym by.0)) (λ moved. inr moved) by.1) leaves
 
--- what a read gives after an opening is what it gave before, or what a migration made of it
+-- what a read gives after an opening is what a read gave before it, or what a migration made of that
 pub read_now : (canton : Canton) (old new : Trail) → Leaves (MayLeave canton old.now.bytes) old new → Alters canton old.now.bytes old.now.bytes new.now.bytes
 read_now canton old new leaves = by_between leaves.between leaves.run leaves.each
   where

@@ -22,7 +22,7 @@ use Rattle.zh_ledger.proofs.ReopeningLemmas.{finds, opened_sure, only_faults, re
 abbrev pub SubmitsOneOrNone : OnDisk Ledger → Log → OnDisk Ledger → Type 0
 SubmitsOneOrNone old log new = (xs : List (Command × Outcome)) × (length xs ≤ 1) × Submits old xs log new
 
--- so it is whatever the keeper is given and answers
+-- this is so whatever the keeper is given and answers
 abbrev pub Serves : Keeper → Type 0
 Serves K = (old : OnDisk K.Holder) (given : K.Given) (answer : K.Answer) (log : Log) (new : OnDisk K.Holder)
     → IsTrue new.history.honest → K.does old given answer log new → SubmitsOneOrNone (of_ledger K.ledger old) log (of_ledger K.ledger new)
@@ -57,7 +57,7 @@ module _ (K : Keeper) (serves : Serves K) (canton : Canton) where
     one_event kept s e.1 e.0 (λ more. IsKeptAllNight canton more e.1 es) is.0 sure (λ more then. holds more e.1 es then is.1),
   )
 
-  -- a formatted disk has nothing yet
+  -- a formatted disk has no commands yet
   fresh_sure : (s : Stretch K) → IsFresh canton s → IsSure canton [] s
   fresh_sure s fresh = record {
     sound = record {
@@ -70,11 +70,11 @@ module _ (K : Keeper) (serves : Serves K) (canton : Canton) where
     judged = subst (λ (l : Log). AreJudged (empty canton) l.accepted) (sym fresh.log) tt;
   }
 
--- The law of a night, of any keeper that so serves what it is given.
+-- The law of a night, for every keeper that serves in this way.
 pub night_law : (K : Keeper) → Serves K → Law K
 night_law K serves canton s night fresh is = holds K serves canton [] s night (fresh_sure K serves canton s fresh) is
 
--- of a ledger that is given commands
+-- the law for a ledger that is given commands
 pub law_of_commands : Law by_commands
 law_of_commands = night_law by_commands
     (λ old command outcome log new honest does. (

@@ -42,11 +42,11 @@ pub formats_as : (setup setup' first first' : List ℕ) (old new : Trail) → se
 formats_as setup setup' first first' old new same_setup same_first formats =
     subst (λ (s : List ℕ). Formats s first' old new) same_setup (subst (λ (f : List ℕ). Formats setup f old new) same_first formats)
 
--- where nothing is pending what a read gives is the one image
+-- if nothing is pending, what a read gives is the only image
 pub one_image : (m : Moment) (c : List ℕ) → m.pending ≡ [] → IsImage m c → c ≡ m.bytes
 one_image m c rest image = synced_image m c (record { size = image.size; same = λ k s. image.same k (subst (λ (p : List (ℕ × ℕ)). IsSettled p k) (sym rest) tt) })
 
--- the content that a formatting leaves stands for the count before the first line
+-- the content that a formatting leaves represents the empty count
 new_stands : (canton : Canton) (setup first : List ℕ) → setup ≡ setup_spelling canton → first ≡ payload_spelling Two (empty canton) → IsTally (empty canton)
     → StandsFor Two (record { setup = setup; generation = 1; snapshot = first; records = [] }) (empty canton)
 new_stands canton setup first same_setup same_first limits = record {
@@ -58,7 +58,7 @@ new_stands canton setup first same_setup same_first limits = record {
   replays = replays_none (empty canton);
 }
 
--- a formatting ends where memory is refused, before the first call of the device
+-- if memory is refused, a formatting ends before the first call of the device
 pub not_formatted : (canton : Canton) (fault : FormatFault) (t : Trail) → MakesNew canton (Err fault) t t
 not_formatted canton fault t = record { moments = before _ _ _; formatted = tt; fresh = tt; settled = tt }
 
@@ -74,11 +74,11 @@ new_image canton setup first m same_setup same_first limits formatted c image =
       stands = new_stands canton setup first same_setup same_first limits;
     }
 
--- an error that a `?` made
+-- an error that a `?` returned
 pub err_of : {T E : Type 0} (r : Result T E) (P : E → Type 0) (e : E) → IsErrAnd r P → r ≡ Err e → P e
 err_of r P e and is = subst (λ (x : Result _ _). IsErrAnd x P) is and
 
--- a disk on which no store stands
+-- a disk without a store
 pub damaged_all : (canton : Canton) (bytes : List ℕ) → (IsBlank bytes → ⊥) × ((x : Content) (j : ℕ) → IsFramed x j bytes → ⊥) → IsDamaged canton bytes
 damaged_all canton bytes none = record {
   gate = none.0;
@@ -95,7 +95,7 @@ damaged_one canton bytes x j long framed wrong = record {
       wrong.nothing format tally same_canton (subst (λ (z : Content). StandsFor format z tally) (framed_once y x k j bytes long other framed) stands);
 }
 
--- what a store's opening found and settled, and its reader has left
+-- what a store's opening found and settled, and what its reader has not read yet
 pub left_there : (old new : Moment) (s : State) (rest : Rest) (x : Content) (j : ℕ) → new ≡ settled old.bytes → IsFramed x j old.bytes
     → Fits s x j old.bytes → Frames 0 rest.pages rest.page x.records rest.end → AwaitsReplay s rest x new.bytes
 left_there old new s rest x j is framed fits left = subst (λ (m : Moment). AwaitsReplay s rest x m.bytes) (sym is) (record { end = j; framed = framed; fits = fits; left = left })
@@ -112,7 +112,7 @@ pub record IsRead (canton : Canton) (x : Content) (payload : List ℕ) : Type 0 
   pub own : x.setup ≡ setup_spelling canton
   pub snapshot : payload ≡ x.snapshot
 
--- so the set-up bytes and the snapshot, of a content whose records are yet to be gone through
+-- what the set-up bytes and the snapshot show of a content whose records have not been read yet
 module _ (s : State) (rest : Rest) (canton : Canton) (given : List ℕ) (equal : Bool) (bytes : List ℕ)
     (spelled : given ≡ setup_spelling canton) (compares : ComparesSetup s.setup_length given bytes (Ok equal)) where
   pub differs_so : equal ≡ false → (x : Content) → AwaitsReplay s rest x bytes → x.setup ≡ setup_spelling canton → ⊥
@@ -125,8 +125,8 @@ module _ (s : State) (rest : Rest) (canton : Canton) (given : List ℕ) (equal :
     snapshot = lends x left.end left.framed left.fits.slot;
   }
 
--- what is then said of the count: nothing where the device failed, that the set-up differs, that the content is wrong, or the
--- format of the count
+-- what is then said about the count: nothing if the device failed; or that the set-up differs, that the content is wrong, or
+-- which format the count has
 module _ {s : State} {rest : Rest} {canton : Canton} {tally : Tally} {bytes : List ℕ} where
   pub count_unread : (fault : OpenFault) → fault ≡ faults.Device → ReadsCount s rest canton tally bytes (Err fault)
   count_unread fault is = subst (λ (e : OpenFault). ReadsCount s rest canton tally bytes (Err e)) (sym is) (record { found = λ x left. tt; differs = λ is. absurd cc; damaged = λ is. absurd cc })
@@ -140,7 +140,7 @@ module _ {s : State} {rest : Rest} {canton : Canton} {tally : Tally} {bytes : Li
   pub count_read : (format : Format) → ((x : Content) → AwaitsReplay s rest x bytes → StandsFor format x tally) → ReadsCount s rest canton tally bytes (Ok format)
   count_read format stands = record { found = stands; differs = λ is. absurd (not_err is); damaged = λ is. absurd (not_err is) }
 
--- where the snapshot says no format
+-- the content is wrong if the snapshot says no format
 pub wrong_format : (canton : Canton) (x : Content) (payload : List ℕ) → IsRead canton x payload → ((format : Format) → slice_get payload 72 ≡ Some (format_byte format) → ⊥) → IsWrong canton x
 wrong_format canton x payload read none = record {
   own = read.own;
@@ -148,7 +148,7 @@ wrong_format canton x payload read none = record {
       none format (ap (λ (b : List ℕ). slice_get b 72) (read.snapshot ∙ sym stands.snapshot.spelling) ∙ format_at format stands.start);
 }
 
--- where no count of the set-up has the snapshot
+-- the content is wrong if no count of the set-up has the snapshot
 pub wrong_snapshot : (canton : Canton) (x : Content) (payload : List ℕ) → IsRead canton x payload
     → ((format : Format) (start : Tally) → start.canton ≡ canton → IsTally start → IsPayload format start payload → ⊥) → IsWrong canton x
 wrong_snapshot canton x payload read none = record {
@@ -157,7 +157,7 @@ wrong_snapshot canton x payload read none = record {
       none format stands.start (stands.canton ∙ same) stands.limits (record { said = stands.snapshot.said; spelling = stands.snapshot.spelling ∙ sym read.snapshot });
 }
 
--- the snapshot says a format, and is that of a count
+-- the snapshot says a format and is that of a count
 pub record IsCounted (canton : Canton) (payload : List ℕ) (format : Format) (start : Tally) : Type 0 where
   pub says : slice_get payload 72 ≡ Some (format_byte format)
   pub its : start.canton ≡ canton
@@ -168,7 +168,7 @@ module _ (canton : Canton) (x : Content) (payload : List ℕ) (read : IsRead can
   same_format : counted.spelled.0 ≡ format
   same_format = format_said counted.spelled.0 format start payload counted.spelled.1 counted.says
 
-  -- where the records lead nowhere from the one count that has it
+  -- the content is wrong if the records lead nowhere from the only count that has the snapshot
   pub wrong_records : ((tally : Tally) → Replays format start x.records tally → ⊥) → IsWrong canton x
   wrong_records none = record {
     own = read.own;
@@ -179,7 +179,7 @@ module _ (canton : Canton) (x : Content) (payload : List ℕ) (read : IsRead can
         none tally (subst (λ (g : Format). Replays g start x.records tally) alike (subst (λ (t : Tally). Replays f t x.records tally) once stands.replays));
   }
 
-  -- where they lead to a count
+  -- if the records lead to a count, the content represents it
   pub found_stands : (tally : Tally) → tally.canton ≡ start.canton → Replays format start x.records tally → StandsFor format x tally
   found_stands tally same replays = record {
     setup = read.own ∙ ap setup_spelling (sym (same ∙ counted.its));

@@ -30,7 +30,7 @@ pub opening_fails : (canton : Canton) (a b : History) (r : Result Ledger OpenFau
 opening_fails canton a b (Ok ledger) is call = absurd cc
 opening_fails canton a b (Err fault) is call = record { ready = tt; call = call }
 
--- where memory is refused
+-- memory is refused
 pub memory_refused : (canton : Canton) (t : Trail) (fault : OpenFault) → fault ≡ faults.Memory → Opens canton (Err fault) t t
 memory_refused canton t fault is = subst (λ (e : OpenFault). Opens canton (Err e) t t) (sym is) (record {
   moments = leaves_none _ t t refl;
@@ -39,7 +39,7 @@ memory_refused canton t fault is = subst (λ (e : OpenFault). Opens canton (Err 
   unchanged = λ other. leaves_none _ t t refl;
 })
 
--- a fault of a store's opening, as the ledger's
+-- a fault of a store's opening, as a fault of the ledger's
 pub fails_as : (f : store.OpenFault) (e : OpenFault) → e ≡ fault_of_store f → store_open_fails {T = State × Rest} (Err f) ≡ open_fails {T = Ledger} (Err e)
 fails_as of_store.Device e is = rw is refl
 fails_as of_store.Blank e is = rw is refl
@@ -68,7 +68,7 @@ count_why canton bytes faults.Blank blank differs damaged = absurd (blank refl)
 count_why canton bytes faults.Damaged blank differs damaged = damaged refl
 count_why canton bytes faults.SetupDiffers blank differs damaged = differs refl
 
--- A store was opened, and the count read: that of this set-up.
+-- A store was opened, and the count of this set-up is read.
 module _ (canton own : Canton) (same : own ≡ canton) (t u : Trail) (s : State) (rest : Rest) (opens : OpensStore (Ok (s, rest)) t u) where
   there : (x : Content) × (j : ℕ) × IsFramed x j t.now.bytes × Fits s x j t.now.bytes
   there = opens.found.read.framed
@@ -76,11 +76,11 @@ module _ (canton own : Canton) (same : own ≡ canton) (t u : Trail) (s : State)
   awaits : AwaitsReplay s rest there.0 u.now.bytes
   awaits = left_there t.now u.now s rest there.0 there.1 opens.settled there.2 there.3 (opens.found.read.left there.0 there.1 there.2)
 
-  -- since what followed were reads
+  -- only reads followed
   alone : (v : Trail) → v ≡ u → Leaves (Settles t.now.bytes) t v
   alone v still = subst (Leaves (Settles t.now.bytes) t) (sym still) opens.moments
 
-  -- it was not read
+  -- the count was not read
   pub count_refused : (tally : Tally) (v : Trail) (fault given : OpenFault) → length t.now.bytes ≡ 1118720 → given ≡ fault
       → fault ≢ faults.Blank → Asks (ReadsCount s rest own tally) (Err fault) u v → Opens canton (Err given) t v
   count_refused tally v fault given long is blank asks =
@@ -100,7 +100,7 @@ module _ (canton own : Canton) (same : own ≡ canton) (t u : Trail) (s : State)
         unchanged = λ other. moments;
       })
 
-  -- it was read, and then migrated where it has to be
+  -- the count was read and then migrated if necessary
   module _ (tally : Tally) (v w : Trail) (format : Format) (kept : tally.canton ≡ own) (asks : Asks (ReadsCount s rest own tally) (Ok format) u v) where
     knows : HoldsLedgerFramed (ledger_in format tally s) t.now.bytes
     knows = record { content = there.0; end = there.1; framed = there.2; fits = there.3; stands = asks.told.found there.0 awaits }

@@ -1,4 +1,4 @@
--- What is written within a slot leaves all that is outside the two slots.
+-- A write within a slot changes nothing outside the two slots.
 use Rattle.std.proofs.Common.{◌≡◌, ◌<◌, ◌≤◌, ◌+◌, ◌∙◌, inl, inr, ⊎_elim, ℕ, List, arith}
 use Rattle.zh_disk.specs.Disk.{Trail, Leaves, IsOutside, SameOutside}
 use Rattle.zh_disk.proofs.CallerLemmas.{leaves_more, leaves_none, same_refl}

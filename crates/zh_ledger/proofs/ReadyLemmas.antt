@@ -14,7 +14,7 @@ use Rattle.zh_ledger.specs.Images.{KeepsOrSteps, Keeps, Stores, LeavesBy, KeepsC
 use Rattle.zh_ledger.proofs.OutsideLemmas.{outside_then, outside_untouched}
 use Rattle.zh_ledger.proofs.RoomLemmas.{ready_already, stored_ready}
 
--- where there is room nothing is done
+-- if there is room, nothing is done
 pub has_made_room : (s : Ledger) (c : Command) (len : ℕ) (t : Trail) → has_room s c ≡ true → MakesRoom s c (Ok len) t t
 has_made_room s c len t room = record {
   moments = leaves_none (Keeps s) t t refl;
@@ -22,7 +22,7 @@ has_made_room s c len t room = record {
   done = λ d image. (d, image, λ kept. subst (λ (l : Ledger). HoldsLedger l d) (sym (ready_already s c room)) kept);
 }
 
--- what it becomes
+-- the ledger after the command
 pub becomes_ready : (s : Ledger) (c : Command) (accepted : ℕ) (outcome : Outcome) (new : Ledger) → IsSpeakable Two c
     → StoredOrDevice accepted outcome → Becomes (ready s c) c outcome new → Becomes s c outcome new
 becomes_ready s c accepted outcome new speakable results by = ⊎_elim
@@ -31,14 +31,14 @@ becomes_ready s c accepted outcome new speakable results by = ⊎_elim
     let broken : Breaks (ready s c) new = subst (λ (o : Outcome). Becomes (ready s c) c o new) is by in
     subst (λ (o : Outcome). Becomes s c o new) (sym is) (record { tally = broken.tally; broken = broken.broken })) results
 
--- while it is made ready the command is not kept
+-- while the ledger is made ready, the command is not on the disk
 pub not_made_ready : (s : Ledger) (c : Command) (e : SwitchFault) (t u : Trail) → MakesRoom s c (Err e) t u → KeepsCommand s c Device t u
 not_made_ready s c e t u by = record {
   leaves = leaves_weaken (Keeps s) (KeepsOrSteps s c) t u (λ x f image still kept. inl (still kept)) by.moments;
   outside = by.outside;
 }
 
--- it is made ready, and then stores
+-- the ledger is made ready, and then it stores
 module _ (s : Ledger) (c : Command) (speakable : IsSpeakable Two c) (len : ℕ) (t0 t1 t2 : Trail) (first : MakesRoom s c (Ok len) t0 t1) where
   each_moment : Leaves (KeepsOrSteps (ready s c) c) t1 t2 → Leaves (KeepsOrSteps s c) t0 t2
   each_moment run = leaves_join (Keeps s) (KeepsOrSteps (ready s c) c) (KeepsOrSteps s c) t0 t1 t2 first.moments run

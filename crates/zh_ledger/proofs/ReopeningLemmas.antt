@@ -26,7 +26,7 @@ use Rattle.zh_ledger.proofs.SubmissionLemmas.{has_none}
 use Rattle.zh_ledger.proofs.JudgedLemmas.{judged_number, judged_take}
 use Rattle.zh_ledger.proofs.StretchLemmas.{left_by, count_of, IsSure, after_stop_sure}
 
--- an opened ledger knows each image, where the bytes that were read held a count, and has this count
+-- if the bytes that were read held a count, an opened ledger has this count and knows each image
 module _ (canton : Canton) (old new : Trail) (ledger : Ledger) (opens : Opens canton (Ok ledger) old new) (tally : Tally) (own : tally.canton ≡ canton) (holds : Holds tally old.now.bytes) where
   pub found_count : ledger.tally ≡ tally
   found_count =
@@ -55,7 +55,7 @@ module _ (canton : Canton) (old new : Trail) (ledger : Ledger) (opens : Opens ca
   pub knows_images : (c : List ℕ) → IsImage new.now c → HoldsLedger ledger c
   knows_images c image = subst (HoldsLedger ledger) (sym (one_image new.now c opens.opened.pending image)) knows_now
 
--- A ledger is opened, or not.
+-- A ledger is opened, or an opening fails.
 module _ (K : Keeper) (canton : Canton) (kept : List Command) (s : Stretch K) (sure : IsSure canton kept s) where
   abbrev pub read : HasSome (count_of canton kept) s.log.accepted s.log.acknowledged s.now.bytes
   read = sure.sound.each s.now.bytes (image_now s.now)
@@ -72,7 +72,7 @@ module _ (K : Keeper) (canton : Canton) (kept : List Command) (s : Stretch K) (s
       ap (λ (t : Tally). t.accepted) (after-append (empty canton) kept (take read.number s.log.accepted)) ∙ more ∙ ap (λ (n : ℕ). n + length (take read.number s.log.accepted)) sure.number
       ∙ sym (length-append kept (take read.number s.log.accepted))
 
-  -- an image that a call leaves which is an opening, or a stop within one, has what one from its start had
+  -- an image that an opening leaves, or a stop within one, has the commands that the images from its start had
   altered_has : (old : Moment) → s.now ≡ old → (d c : List ℕ) → IsImage old d → Alters canton old.bytes d c → HasSome (count_of canton kept) s.log.accepted s.log.acknowledged c
   altered_has old now d c image by = ⊎_elim
       (λ still. sure.sound.each c (subst (λ (m : Moment). IsImage m c) (sym now) (subst (IsImage old) (sym still) image)))
@@ -115,7 +115,7 @@ module _ (K : Keeper) (canton : Canton) (kept : List Command) (s : Stretch K) (s
       judged = tt;
     }
 
-  -- no fault but of memory or the device
+  -- the only faults are those of memory and of the device
   pub only_faults : (fault : OpenFault) → IsCause canton s.now.bytes fault → (fault ≡ faults.Memory) ⊎ (fault ≡ faults.Device)
   only_faults faults.Memory cause = inl refl
   only_faults faults.Device cause = inr refl

@@ -19,7 +19,7 @@ use Rattle.zh_ledger.specs.Stands.{Replays, AreAccepted}
 pub replays_none : {format : Format} (tally : Tally) → Replays format tally [] tally
 replays_none {format} tally = record { commands = []; speakable = All-nil (IsSpeakable format); spelled = refl; accepted = tt; count = refl }
 
--- the record's command is one that is accepted, with a number left for it
+-- the record's command is accepted, with a number left for it
 pub record IsNext (format : Format) (start : Tally) (r : List ℕ) (command : Command) : Type 0 where
   pub speakable : IsSpeakable format command
   pub spelled : command_spelling format command ≡ r
@@ -35,7 +35,7 @@ replays_one {format} start r command next = record {
   count = refl;
 }
 
--- the first record is one of a command that is accepted, and the others lead on from there
+-- the first record has a command that is accepted, and the others lead on from there
 pub record Begins (format : Format) (start : Tally) (r : List ℕ) (rs : List (List ℕ)) (tally : Tally) : Type 0 where
   pub command : Command
   pub next : IsNext format start r command
@@ -62,7 +62,7 @@ replays_begun {format} start r rs tally begins = record {
   count = begins.rest.count;
 }
 
--- a list of no records leads nowhere
+-- without records, the count does not change
 pub replays_still : {format : Format} (start tally : Tally) → Replays format start [] tally → tally ≡ start
 replays_still {format} start tally replays = at replays.commands replays.spelled replays.count
   where
@@ -70,19 +70,19 @@ replays_still {format} start tally replays = at replays.commands replays.spelled
     at [] spelled count = count
     at (command ∷ commands) spelled count = absurd (cc)
 
--- where a record led
+-- the count to which one record leads
 landed : {format : Format} (start : Tally) (r : List ℕ) (mid : Tally) → Replays format start (r ∷ []) mid → (command : Command) × IsNext format start r command × (mid ≡ step start command)
 landed {format} start r mid one =
     let begins = replays_first start r [] mid one in
     (begins.command, begins.next, replays_still _ mid begins.rest)
 
--- a record, and then others
+-- one record, and then others
 pub replays_more : {format : Format} (start mid tally : Tally) (r : List ℕ) (rs : List (List ℕ)) → Replays format start (r ∷ []) mid → Replays format mid rs tally → Replays format start (r ∷ rs) tally
 replays_more {format} start mid tally r rs one others =
     let there = landed start r mid one in
     replays_begun start r rs tally (record { command = there.0; next = there.1; rest = subst (λ (t : Tally). Replays format t rs tally) there.2 others })
 
--- a record leads to one count alone
+-- a record leads to only one count
 pub replays_less : {format : Format} (start mid tally : Tally) (r : List ℕ) (rs : List (List ℕ)) → Replays format start (r ∷ []) mid → Replays format start (r ∷ rs) tally → Replays format mid rs tally
 replays_less {format} start mid tally r rs one all =
     let there = landed start r mid one in
@@ -90,7 +90,7 @@ replays_less {format} start mid tally r rs one all =
     let same : begins.command ≡ there.0 = command_once format begins.command there.0 begins.next.speakable there.1.speakable (begins.next.spelled ∙ sym there.1.spelled) in
     subst (λ (t : Tally). Replays format t rs tally) (ap (step start) same ∙ sym there.2) begins.rest
 
--- of these records the ones from this page on are left, and where they lead from the count now is where all lead from the start
+-- the records from this page on are left; they lead from the current count to where all of the records lead from the start
 pub record Remains (format : Format) (pages : List ℕ) (page end : ℕ) (start : Tally) (records : List (List ℕ)) (now : Tally) : Type 0 where
   pub rest : List (List ℕ)
   pub framed : Frames 0 pages page rest end
@@ -106,7 +106,7 @@ remains_nothing {format} pages page end start records now last remains = at rema
     at [] framed leads = leads now (replays_none now)
     at (r ∷ rs) framed leads = absurd (omega (arith, frames_room 0 pages page end r rs framed))
 
--- before it a record is left
+-- before the last page, a record is left
 pub record IsAhead (format : Format) (pages : List ℕ) (page end : ℕ) (start : Tally) (records : List (List ℕ)) (now : Tally) : Type 0 where
   pub first : List ℕ
   pub others : List (List ℕ)
@@ -124,7 +124,7 @@ remains_some {format} pages page end start records now before remains = at remai
     at [] framed leads led = absurd (before framed)
     at (r ∷ rs) framed leads led = record { first = r; others = rs; framed = framed; leads = leads; led = led }
 
--- once the first of them is replayed, the others are left
+-- after the first of them is replayed, the others are left
 pub remains_less : {format : Format} (pages : List ℕ) (page end : ℕ) (start : Tally) (records : List (List ℕ)) (now : Tally) (ahead : IsAhead format pages page end start records now)
     → (page' : ℕ) (next : Tally) → Frames 0 pages page' ahead.others end → Replays format now (ahead.first ∷ []) next → Remains format pages page' end start records next
 remains_less {format} pages page end start records now ahead page' next framed one = record {
@@ -134,14 +134,14 @@ remains_less {format} pages page end start records now ahead page' next framed o
   led = λ tally replays. replays_less now next tally ahead.first ahead.others one (ahead.led tally replays);
 }
 
--- where the first of them is of no command that is accepted, the records lead nowhere
+-- if the first of them has no command that is accepted, the records lead nowhere
 pub remains_stuck : {format : Format} (pages : List ℕ) (page end : ℕ) (start : Tally) (records : List (List ℕ)) (now : Tally) (ahead : IsAhead format pages page end start records now)
     → ((command : Command) → IsNext format now ahead.first command → ⊥) → (tally : Tally) → Replays format start records tally → ⊥
 remains_stuck {format} pages page end start records now ahead none tally replays =
     let begins = replays_first now ahead.first ahead.others tally (ahead.led tally replays) in
     none begins.command begins.next
 
--- the same records, where the pages and their end are called by other names
+-- the same records, with other names for the pages and their end
 frames_as : (pages pages' : List ℕ) (page end end' : ℕ) (records : List (List ℕ)) → pages' ≡ pages → end' ≡ end → Frames 0 pages page records end → Frames 0 pages' page records end'
 frames_as pages pages' page end end' records same_pages same_end framed =
     subst (λ (p : List ℕ). Frames 0 p page records end') (sym same_pages) (subst (λ (e : ℕ). Frames 0 pages page records e) (sym same_end) framed)
@@ -149,7 +149,7 @@ frames_as pages pages' page end end' records same_pages same_end framed =
 no_none : (got : Option (Bor (List ℕ))) (payload : Bor (List ℕ)) → got ≡ Some payload → IsNone got → ⊥
 no_none got payload is none = let here = subst (λ (o : Option (Bor (List ℕ))). IsNone o) is none in cc
 
--- what a reader gave is the first of the records that are left, and it goes on to the others
+-- what a reader returned is the first of the records that are left, and the others are left to it
 pub remains_next : {format : Format} (pages pages' : List ℕ) (page page' end end' : ℕ) (start : Tally) (records : List (List ℕ)) (count : Tally) (got : Option (Bor (List ℕ))) (payload : Bor (List ℕ))
     → pages' ≡ pages → end' ≡ end → got ≡ Some payload
     → IsNone got ↔ (page ≡ end')

@@ -15,7 +15,7 @@ use Rattle.zh_ledger.specs.Ledger.{Ledger, pages_for, has_room, ready, stored}
 pub ready_already : (s : Ledger) (c : Command) → has_room s c ≡ true → ready s c ≡ s
 ready_already s c room = ap (λ (b : Bool). record { tally = s.tally; store = if b then s.store else switched s.store; format = s.format }) room
 
--- one that has none is ready after a switch
+-- a ledger without room is ready after a switch
 pub ready_switched : (s : Ledger) (c : Command) → has_room s c ≡ false → ready s c ≡ record { tally = s.tally; store = switched s.store; format = s.format }
 ready_switched s c none = ap (λ (b : Bool). record { tally = s.tally; store = if b then s.store else switched s.store; format = s.format }) none
 
@@ -31,10 +31,10 @@ room_ready s c speakable = by_room (has_room s c) refl
     by_room true room = ap (λ (l : Ledger). has_room l c) (ready_already s c room) ∙ room
     by_room false none = ap (λ (l : Ledger). has_room l c) (ready_switched s c none) ∙ le-leb (pages_for c) 1024 (few_pages (length (command_spelling Two c)) (short Two c speakable))
 
--- and it is ready
+-- a ledger that was made ready is ready
 pub ready_once : (s : Ledger) (c : Command) → IsSpeakable Two c → ready (ready s c) c ≡ ready s c
 ready_once s c speakable = ready_already (ready s c) c (room_ready s c speakable)
 
--- what is stored is stored by the ledger that is ready
+-- the ledger that is ready stores the same
 pub stored_ready : (s : Ledger) (c : Command) → IsSpeakable Two c → stored (ready s c) c ≡ stored s c
 stored_ready s c speakable = ap (λ (l : Ledger). record { tally = step s.tally c; store = longer l.store (length (command_spelling Two c)); format = l.format }) (ready_once s c speakable)

@@ -1,4 +1,4 @@
--- That an image stands for one count, and what counts are after commands.
+-- An image represents only one count; and the counts after commands.
 use Rattle.std.proofs.Common.{◌≡◌, ℕ, List, [], ◌∷◌, ◌++◌, map, refl, sym, ◌∙◌, subst}
 use Rattle.std.specs.Prelude.{All}
 use Rattle.std.proofs.lemmas.List.Elements.{All-head, All-tail}
@@ -27,11 +27,11 @@ commands_once format (c ∷ cs) (d ∷ ds) all_c all_d same =
     let others = commands_once format cs ds (All-tail (IsSpeakable format) c cs all_c) (All-tail (IsSpeakable format) d ds all_d) there in
     λ i. first i ∷ others i
 
--- a content is of one format
+-- a content has only one format
 pub format_alike : (f g : Format) (x : Content) (t u : Tally) → StandsFor f x t → StandsFor g x u → f ≡ g
 format_alike f g x t u one two = one_format f g one.start two.start (one.snapshot.spelling ∙ sym two.snapshot.spelling)
 
--- and stands for one count of a set-up
+-- a content represents only one count of a set-up
 pub stands_alike : (f g : Format) (x : Content) (t u : Tally) → t.canton ≡ u.canton → StandsFor f x t → StandsFor g x u → t ≡ u
 stands_alike f g x t u canton one two =
     let start : one.start ≡ two.start = tally_once f g one.start two.start one.limits two.limits (one.canton ∙ canton ∙ sym two.canton) (one.snapshot.spelling ∙ sym two.snapshot.spelling) in

@@ -19,13 +19,13 @@ use Rattle.zh_ledger.proofs.StandsLemmas.{after-append}
 use Rattle.zh_ledger.proofs.JudgedLemmas.{AreJudged}
 use Rattle.zh_ledger.proofs.SubmissionLemmas.{broken_run, log_first, submits_honest}
 
--- Where a stop comes.
+-- The moment at which a stop comes.
 
 pub all_after : (R : List ℕ → List ℕ → Type 0) (a : Moment) (xs ys : List Moment) → AllMove R a (xs ++ ys) → AllMove R a ys
 all_after R a [] ys each = each
 all_after R a (x ∷ xs) ys each = all_after R a xs ys each.1
 
--- what a call leaves by R, it leaves by R where it is stopped
+-- if all that a call leaves comes by R, so does what a stop within it leaves
 pub left_by : (R : List ℕ → List ℕ → Type 0) (old new : Trail) (c : List ℕ) → ((x : List ℕ) → R x x) → Leaves R old new → StopsWithin old new c → (d : List ℕ) × IsImage old.now d × R d c
 left_by R old new c same leaves left =
     let run : left.due.0 ++ (left.begun.0 ++ old.now ∷ old.past) ≡ leaves.between ++ old.now ∷ old.past = ap (λ (l : List Moment). left.due.0 ++ l) (sym left.begun.1) ∙ sym left.due.1 ∙ leaves.run in
@@ -35,15 +35,15 @@ left_by R old new c same leaves left =
     let begun : Leaves R old left.at = record { between = left.begun.0; run = left.begun.1; each = all_after R old.now left.due.0 left.begun.0 each } in
     leaves_now R old left.at same begun c left.image
 
--- a stop's bytes are the one image
+-- after a stop, its bytes are the only image
 pub only_image : (c d : List ℕ) → IsImage (settled c) d → d ≡ c
 only_image c d image = synced_image (settled c) d image
 
--- the count after these commands, in order, from a formatted disk's
+-- the count after these commands, in order, from a formatted disk on
 abbrev pub count_of : Canton → List Command → Tally
 count_of canton commands = after (empty canton) commands
 
--- What holds between two events, and that each command kept or accepted was judged acceptable in turn.
+-- What holds between two events; and each command that was kept or accepted was judged acceptable in turn.
 pub record IsSure {K : Keeper} (canton : Canton) (kept : List Command) (s : Stretch K) : Type 0 where
   pub sound : IsSound canton kept s
   pub number : (count_of canton kept).accepted ≡ length kept
@@ -63,7 +63,7 @@ after_stop_sure canton kept s c log sure has last judged = record {
   judged = judged;
 }
 
--- after commands that are all there, one that has some of the others has them too
+-- an image that has some of the other commands after all of these has all of these, too
 pub has_after : (t : Tally) (cs ds : List Command) (least : ℕ) (c : List ℕ) → HasSome (after t cs) ds least c → HasSome t (cs ++ ds) (length cs + least) c
 has_after t cs ds least c some = record {
   number = length cs + some.number;
@@ -72,14 +72,14 @@ has_after t cs ds least c some = record {
   holds = subst (λ (u : Tally). Holds u c) (sym (ap (after t) (take-append-add cs ds some.number) ∙ after-append t cs (take some.number ds))) some.holds;
 }
 
--- what a ledger knows before, it knows after
+-- if the ledger knew the images before, it knows those afterwards
 abbrev pub StillHolds : OnDisk Ledger → OnDisk Ledger → Type 0
 StillHolds old new = (c : List ℕ) → IsImage new.history.trail.now c → (d : List ℕ) × IsImage old.history.trail.now d × (HoldsLedger old.holder d → HoldsLedger new.holder c)
 
 same_images : (old new : OnDisk Ledger) → new.holder ≡ old.holder → new.history.trail ≡ old.history.trail → StillHolds old new
 same_images old new ledger trail c image = (c, subst (λ (t : Trail). IsImage t.now c) trail image, λ kept. subst (λ (l : Ledger). HoldsLedger l c) (sym ledger) kept)
 
--- after a command a ledger that met no fault knows all images, and has acknowledged what it accepted
+-- after a command, a ledger that has met no fault knows all images and has acknowledged what it accepted
 still_whole : (command : Command) (outcome : Outcome) (old new : OnDisk Ledger) → Becomes old.holder command outcome new.holder
     → LeavesBy old.holder command outcome old.history.trail new.history.trail → new.holder.store.broken ≡ false
     → ((logged command outcome).acknowledged ≡ length (logged command outcome).accepted) × StillHolds old new
@@ -93,7 +93,7 @@ still_whole c Device old new ledger leaves whole =
     absurd (cc)
 still_whole c outcome old new ledger leaves whole = (refl, same_images old new ledger leaves)
 
--- so after many, where no command was met by a fault
+-- the same after several commands, if none of them met a fault
 whole_then : (old : OnDisk Ledger) (x : Command × Outcome) (mid : OnDisk Ledger) (others log : Log) (new : OnDisk Ledger)
     → Submission old x.0 x.1 mid → IsTrue mid.history.honest → log ≡ followed_by (logged x.0 x.1) others → mid.holder.store.broken ≡ false
     → (others.acknowledged ≡ length others.accepted) × StillHolds mid new → (log.acknowledged ≡ length log.accepted) × StillHolds old new
@@ -106,7 +106,7 @@ whole_then old x mid others log new by honest log_is whole rest =
           (from.0, from.1, λ kept. mids.2 (from.2 kept)),
     )
 
--- a ledger that met no fault at the end had met none before
+-- if a ledger has met no fault at the end, it had met none before
 whole_before : (old : OnDisk Ledger) (xs : List (Command × Outcome)) (log : Log) (new : OnDisk Ledger) → IsTrue new.history.honest
     → Submits old xs log new → new.holder.store.broken ≡ false → old.holder.store.broken ≡ false
 whole_before old xs log new honest run whole = by_broken old.holder.store.broken refl

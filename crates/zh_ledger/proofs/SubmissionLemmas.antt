@@ -17,15 +17,15 @@ use Rattle.zh_ledger.specs.Submissions.{OnDisk, on_disk, Submission, Log, nothin
 use Rattle.zh_ledger.proofs.StandsLemmas.{holds_kept}
 use Rattle.zh_ledger.proofs.OutsideLemmas.{outside_then, outside_untouched}
 
--- an image for a count has none of any commands
+-- an image with a count has the first 0 of any commands
 pub has_none : (tally : Tally) (commands : List Command) (c : List ℕ) → Holds tally c → HasSome tally commands 0 c
 has_none tally commands c holds = record { number = 0; at_least = omega arith; within = omega arith; holds = holds }
 
--- one for the stepped count has the first
+-- an image with the count after a command has this command as the first
 pub has_first : (s : Ledger) (command : Command) (commands : List Command) (c : List ℕ) → Holds (stored s command).tally c → HasSome s.tally (command ∷ commands) 1 c
 has_first s command commands c holds = record { number = 1; at_least = omega arith; within = omega arith; holds = holds }
 
--- after a stored command, one that has some of the others has it too
+-- after a stored command, an image that has some of the others has this command, too
 has_more : (s : Ledger) (command : Command) (commands : List Command) (least : ℕ) (c : List ℕ) → HasSome (stored s command).tally commands least c → HasSome s.tally (command ∷ commands) (1 + least) c
 has_more s command commands least c some = record { number = suc some.number; at_least = omega (arith, some.at_least); within = omega (arith, some.within); holds = some.holds }
 
@@ -37,11 +37,11 @@ keeps_or_has s command commands x f by = λ kept. ⊎_elim
     (λ still. has_none s.tally (command ∷ commands) f still)
     (λ now. has_any s.tally (command ∷ commands) 1 f (has_first s command commands f now)) (by kept)
 
--- one trail, of the moments of another
+-- a history with another trail
 abbrev with_trail : History → Trail → History
 with_trail history trail = record history { trail = trail }
 
--- the same ledger and moments, of a disk with whatever else is known of it
+-- the same ledger and moments, whatever else is known of the disk
 same_start : (old mid : OnDisk Ledger) (log : Log) (new : OnDisk Ledger) → mid.holder ≡ old.holder → mid.history.trail ≡ old.history.trail → IsLogged mid log new → IsLogged old log new
 same_start old mid log new ledger trail logs =
     let moved : IsLogged (on_disk old.holder (with_trail mid.history old.history.trail)) log new =
@@ -59,7 +59,7 @@ none_logged old new ledger trail = record {
   outside = outside_untouched old.history.trail new.history.trail trail;
 }
 
--- a command is stored, and then come others
+-- a command is stored, and others follow
 module _ (old mid new : OnDisk Ledger) (command : Command) (log : Log) (ledger : mid.holder ≡ stored old.holder command)
     (leaves : Leaves (KeepsOrSteps old.holder command) old.history.trail mid.history.trail)
     (moves : Moves (Stores old.holder command) old.history.trail.now mid.history.trail.now)
@@ -111,13 +111,13 @@ device_logged old new command tally leaves outside = record {
   outside = outside;
 }
 
--- what leaves ledger, moments and log as they were
+-- something that changes neither ledger, nor moments, nor log
 pub record IsQuiet (old : OnDisk Ledger) (log : Log) (new : OnDisk Ledger) : Type 0 where
   pub ledger : new.holder ≡ old.holder
   pub trail : new.history.trail ≡ old.history.trail
   pub none : log ≡ nothing
 
--- a ledger that is broken stores nothing
+-- a broken ledger stores nothing
 broken_quiet : (old : OnDisk Ledger) (command : Command) (outcome : Outcome) (new : OnDisk Ledger) → old.holder.store.broken ≡ true
     → Submission old command outcome new → IsTrue new.history.honest → IsQuiet old (logged command outcome) new
 broken_quiet old command outcome new broken by honest =
@@ -131,12 +131,12 @@ broken_quiet old command outcome new broken by honest =
 quiet_log : (log : Log) → followed_by nothing log ≡ log
 quiet_log log = λ i. record { accepted = log.accepted; acknowledged = zero-add log.acknowledged i }
 
--- a disk that is honest after commands was so before them
+-- if a disk is honest after commands, it was honest before them
 pub submits_honest : (old : OnDisk Ledger) (xs : List (Command × Outcome)) (log : Log) (new : OnDisk Ledger) → Submits old xs log new → IsTrue new.history.honest → IsTrue old.history.honest
 submits_honest old [] log new (none, same) honest = subst (λ (o : OnDisk Ledger). IsTrue o.history.honest) same honest
 submits_honest old (x ∷ xs) log new (mid, others, by, log_is, run) honest = by.call.kept (submits_honest mid xs others new run honest)
 
--- after a fault of the device no later command changes anything
+-- after a fault of the device, no later command changes anything
 pub broken_run : (old : OnDisk Ledger) (xs : List (Command × Outcome)) (log : Log) (new : OnDisk Ledger) → old.holder.store.broken ≡ true
     → IsTrue new.history.honest → Submits old xs log new → IsQuiet old log new
 broken_run old [] log new broken honest (none, same) =
@@ -150,7 +150,7 @@ broken_run old (x ∷ xs) log new broken honest (mid, others, by, log_is, run) =
       none = log_is ∙ ap (λ (l : Log). followed_by l others) (by.logs ∙ quiet.none) ∙ quiet_log others ∙ then.none;
     }
 
--- a command that changes nothing, and then come others
+-- a command changes nothing, and others follow
 quiet_logged : (old mid new : OnDisk Ledger) (log : Log) → mid.holder ≡ old.holder → mid.history.trail ≡ old.history.trail → IsLogged mid log new → IsLogged old (followed_by nothing log) new
 quiet_logged old mid new log ledger trail logs = subst (λ (l : Log). IsLogged old l new) (sym (quiet_log log)) (same_start old mid log new ledger trail logs)
 
@@ -185,7 +185,7 @@ submits_logged old (x ∷ xs) log new honest (mid, others, by, log_is, run) =
 pub log_none : (log : Log) → followed_by log nothing ≡ log
 log_none log = λ i. record { accepted = append-nil log.accepted i; acknowledged = add-zero log.acknowledged i }
 
--- one command is a run of one, and none is one of none
+-- one command is a run of one command, and no command is an empty run
 pub one_submitted : (old : OnDisk Ledger) (command : Command) (outcome : Outcome) (new : OnDisk Ledger) (by : Submission old command outcome new) → Submits old ((command, outcome) ∷ []) by.log new
 one_submitted old command outcome new by = (new, nothing, by, sym (log_none by.log), (refl, refl))
 

@@ -24,13 +24,13 @@ use Rattle.zh_ledger.proofs.OutsideLemmas.{within_slot}
 use Rattle.zh_ledger.proofs.ReplayLemmas.{replays_none}
 use Rattle.zh_ledger.proofs.RoomLemmas.{ready_switched}
 
--- what fills the buffer is all that is there
+-- what fills the buffer is all of it
 pub whole_payload : (n : ℕ) (tally tally' : Tally) (before out : List ℕ) → length before ≡ n → tally' ≡ tally → out ≡ payload_spelling Two tally' ++ drop n before → out ≡ payload_spelling Two tally
 whole_payload n tally tally' before out size same is =
     let none : drop n before ≡ [] = drop_all n before (omega arith) in
     is ∙ ap (λ rest. payload_spelling Two tally' ++ rest) none ∙ append-nil (payload_spelling Two tally') ∙ ap (payload_spelling Two) same
 
--- the snapshot of a count stands for it
+-- the snapshot of a count represents it
 pub stands_anew : (format : Format) (x : Content) (tally : Tally) → StandsFor format x tally → IsTally tally → StandsFor Two (with_snapshot x (payload_spelling Two tally)) tally
 stands_anew format x tally by limits = record {
   setup = by.setup;
@@ -54,11 +54,11 @@ module _ (tally : Tally) (store : State) (limits : IsTally tally) where
       })
       (by.clean kept.content kept.end kept.clean kept.fits)
 
-  -- at each moment of a switch an image that the ledger knows holds its count
+  -- at each moment of a switch, an image that the ledger knows holds its count
   keeps_count : (t u : Trail) → Leaves (StoreSwitchesOrNot store (payload_spelling Two tally)) t u → Leaves (Keeps (ledger_of tally store)) t u
   keeps_count t u run = leaves_weaken _ _ t u (λ d e image by. still_holds d e by) run
 
-  -- after it the ledger knows the new one, which is clean, whatever the format was
+  -- after the switch, the ledger knows the new image, which is clean, whatever the format was
   pub knows_switched : (format : Format) (old new : List ℕ) → StoreSwitches store (payload_spelling Two tally) old new
       → HoldsLedgerFramed (ledger_in format tally store) old → HoldsLedger (ledger_of tally (switched store)) new
   knows_switched format old new by found =
@@ -71,7 +71,7 @@ module _ (tally : Tally) (store : State) (limits : IsTally tally) where
         stands = stands_anew format found.content tally found.stands limits;
       }
 
-  -- so it is made ready for a command for which it lacked room
+  -- so the ledger is made ready for a command for which it lacked room
   made_ready : (c : Command) → has_room (ledger_of tally store) c ≡ false → (old new : Moment)
       → Moves (StoreSwitches store (payload_spelling Two tally)) old new → Moves (Readies (ledger_of tally store) c) old new
   made_ready c none old new moves = λ d image.
@@ -82,7 +82,7 @@ module _ (tally : Tally) (store : State) (limits : IsTally tally) where
             (knows_switched Two from.0 d from.2 (record { content = kept.content; end = kept.end; framed = kept.clean.framed; fits = kept.fits; stands = kept.stands })),
       )
 
-  -- so a switch makes room for it, or fails to
+  -- so a switch makes room for the command or fails to
   around : (result : Result (Unit {0}) SwitchFault) (t u : Trail) → StoreSwitch store (payload_spelling Two tally) result t u → Leaves SameOutsideSlots t u
   around result t u by = leaves_weaken _ _ t u (λ x f image to. within_slot (other store.slot) x f to.around) by.moments
 

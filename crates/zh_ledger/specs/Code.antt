@@ -17,11 +17,11 @@ pub format_again : (format : Format) → format_by (is_one format) ≡ format
 format_again One = refl
 format_again Two = refl
 
--- a format is stored as whether it is format One
+-- a format is coded as whether it is format One
 abbrev pub format_code : Coded Format
 format_code = code_by Bool coded_bool is_one format_by format_again
 
--- a ledger is stored as its fields, in pairs
+-- a ledger is coded as its fields, in pairs
 abbrev pub ledger_code : Coded Ledger
 ledger_code =
     code_by (Tally × (store.State × Format)) (coded× tally_code (coded× state_code format_code))

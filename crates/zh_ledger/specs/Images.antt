@@ -11,11 +11,11 @@ use Rattle.zh_ledger.specs.declared.outcome.Outcome.TheVariants.{Stored, Device}
 use Rattle.zh_ledger.specs.Ledger.{Ledger, ready, stored}
 use Rattle.zh_ledger.specs.Stands.{Holds, HoldsLedger}
 
--- an image that the ledger knows comes to hold the count before, or the stepped one
+-- an image that the ledger knows comes to hold the count from before the command, or from after it
 abbrev pub KeepsOrSteps : Ledger → Command → List ℕ → List ℕ → Type 0
 KeepsOrSteps s command old new = HoldsLedger s old → Holds s.tally new ⊎ Holds (step s.tally command) new
 
--- it becomes the one that the ledger knows once the command is stored
+-- an image that the ledger knows becomes one that it knows after the command is stored
 abbrev pub Stores : Ledger → Command → List ℕ → List ℕ → Type 0
 Stores s command old new = HoldsLedger s old → HoldsLedger (stored s command) new
 
@@ -23,19 +23,19 @@ Stores s command old new = HoldsLedger s old → HoldsLedger (stored s command) 
 abbrev pub Keeps : Ledger → List ℕ → List ℕ → Type 0
 Keeps s old new = HoldsLedger s old → Holds s.tally new
 
--- it becomes the one that the ledger knows once it is ready for the command
+-- an image that the ledger knows becomes one that it knows after it was made ready for the command
 abbrev pub Readies : Ledger → Command → List ℕ → List ℕ → Type 0
 Readies s command old new = HoldsLedger s old → HoldsLedger (ready s command) new
 
--- At each moment the command is kept whole or not at all; after `Stored` it is kept; after every other outcome but
--- `Device` no call of the disk wrote or synced.
+-- At each moment, an image has the whole command or nothing of it. After `Stored`, it has the command. After every outcome but
+-- `Stored` and `Device`, no call wrote or synced the disk.
 abbrev pub LeavesBy : Ledger → Command → Outcome → Trail → Trail → Type 0
 LeavesBy s command (Stored accepted) old new =
     Leaves (KeepsOrSteps s command) old new × Moves (Stores s command) old.now new.now
 LeavesBy s command Device old new = Leaves (KeepsOrSteps s command) old new
 LeavesBy s command outcome old new = new ≡ old
 
--- nothing outside the two slots is changed: not the gate of the disk, its header, its set-up bytes, or what is between
+-- nothing outside the two slots changes: not the disk gate, the header, the set-up bytes, or what is between them
 abbrev pub SameOutsideSlots : List ℕ → List ℕ → Type 0
 SameOutsideSlots = SameOutside head_length slots_length
 
@@ -45,19 +45,19 @@ pub record KeepsCommand (s : Ledger) (command : Command) (outcome : Outcome) (ol
   -- whatever the images were
   pub outside : Leaves SameOutsideSlots old new
 
--- What making room for a command does: where too few pages are left, the store switches.
+-- What making room for a command does: if too few pages are left, the store switches.
 pub record MakesRoom (s : Ledger) (command : Command) (result : Result ℕ SwitchFault) (old new : Trail) : Type 0 where
   pub moments : Leaves (Keeps s) old new
   pub outside : Leaves SameOutsideSlots old new
   pub done : OnOk result (Moves (Readies s command) old.now new.now)
 
--- a clean image that stands for the count after the first of these commands, in order, at least so many of them
+-- a clean image that represents the count after the first of these commands, in order, and at least `least` of them
 pub record HasSome (tally : Tally) (commands : List Command) (least : ℕ) (c : List ℕ) : Type 0 where
   pub number : ℕ
   pub at_least : least ≤ number
   pub within : number ≤ length commands
   pub holds : Holds (after tally (take number commands)) c
 
--- an image that the ledger knows comes to have some of these commands, at least so many of them
+-- an image that the ledger knows comes to have the first of these commands, at least `least` of them
 abbrev pub ComesToHave : Ledger → List Command → ℕ → List ℕ → List ℕ → Type 0
 ComesToHave s commands least old new = HoldsLedger s old → HasSome s.tally commands least new

@@ -1,4 +1,4 @@
--- A night: what is given to a ledger, or to an office, stops and openings, on an honest disk that was formatted for it.
+-- A night: what a ledger or an office is given, and stops and openings, on an honest disk that was formatted for it.
 use Rattle.std.specs.Prelude.{◌≡◌, ◌⊎◌, ◌≤◌, ℕ, ◌+◌, IsTrue, false}
 use Rattle.std.specs.Prelude.{List, [], ◌∷◌, ◌++◌, length, take, Option, Some, None, IfSome, Result, Ok, Err}
 use Rattle.zh_disk.specs.Disk.{Moment, Trail, IsImage, settled}
@@ -16,8 +16,8 @@ use Rattle.zh_ledger.specs.declared.outcome.Outcome.{Outcome}
 use Rattle.zh_ledger.specs.declared.opening.OpenFault.{OpenFault}
 use Rattle.zh_ledger.specs.declared.opening.OpenFault.TheVariants as faults
 
--- Who keeps a count on a disk, a ledger or an office: what it holds, with the ledger in it, and what it holds when it was
--- just opened; what it is given and what it answers, what that does, and what it adds to the log.
+-- What keeps a count on a disk, a ledger or an office: its state (the holder), what it is given, and what it answers; the
+-- ledger in it, and whether it was just opened; and what is done with what it is given, and added to the log.
 pub record Keeper : Type 1 where
   pub Holder : Type 0
   pub Given : Type 0
@@ -27,9 +27,9 @@ pub record Keeper : Type 1 where
   pub does : OnDisk Holder → Given → Answer → Log → OnDisk Holder → Type 0
 
 pub data Event (K : Keeper) : Type 0 where
-  -- the holder that is open is given this, and answers so
+  -- the open holder is given this and answers with that
   answered : K.Given → K.Answer → Event K
-  -- a stop comes within the work on it, at any moment of it, before it is answered
+  -- a stop comes at any moment of the work on what was given, before the answer
   stopped_within : K.Given → Event K
   -- a stop comes between two calls
   stopped : Event K
@@ -40,7 +40,7 @@ pub data Event (K : Keeper) : Type 0 where
   -- a stop comes within an opening
   stopped_opening : Event K
 
--- a stretch goes from one opening to the next: what the disk holds, the holder if one is open, what was logged
+-- a stretch goes from one opening to the next: what the disk holds, the holder if one is open, and what was logged
 pub record Stretch (K : Keeper) : Type 0 where
   pub now : Moment
   pub holder : Option K.Holder
@@ -50,11 +50,11 @@ pub record Stretch (K : Keeper) : Type 0 where
 abbrev pub after_stop : {K : Keeper} → List ℕ → Log → Stretch K
 after_stop c log = record { now = settled c; holder = None; log = log }
 
--- commands that nobody acknowledged
+-- the same commands, none of them acknowledged
 abbrev pub unacknowledged : Log → Log
 unacknowledged log = record { accepted = log.accepted; acknowledged = 0 }
 
--- the one trail, some moments later
+-- the new trail is the old one, some moments later
 abbrev pub GoesOn : Trail → Trail → Type 0
 GoesOn old new = (between : List Moment) × (new.now ∷ new.past ≡ between ++ old.now ∷ old.past)
 
@@ -65,7 +65,7 @@ pub record StopsWithin (old new : Trail) (c : List ℕ) : Type 0 where
   pub due : GoesOn at new
   pub image : IsImage at.now c
 
--- a call of the holder that is open begins at this moment, and does this on a disk that is honest to its end
+-- a call of the open holder begins at this moment and does this, on a disk that is honest until its end
 pub record Works (K : Keeper) (s : Stretch K) (given : K.Given) (answer : K.Answer) (log : Log) (new : OnDisk K.Holder) : Type 0 where
   pub old : OnDisk K.Holder
   pub holder : s.holder ≡ Some old.holder
@@ -73,7 +73,7 @@ pub record Works (K : Keeper) (s : Stretch K) (given : K.Given) (answer : K.Answ
   pub honest : IsTrue new.history.honest
   pub done : K.does old given answer log new
 
--- what the contract of each call, and a stop, make of a stretch
+-- what each event makes of a stretch, by the contract of each call, or by a stop
 abbrev pub Allows : {K : Keeper} → Canton → Stretch K → Event K → Stretch K → Type 0
 Allows {K} canton s (answered given answer) t =
     (log : Log) × (new : OnDisk K.Holder) × Works K s given answer log new
@@ -92,27 +92,27 @@ Allows {K} canton s stopped_opening t =
     (old : Trail) × (new : Trail) × (result : Result Ledger OpenFault) × (c : List ℕ) × (s.now ≡ old.now)
     × Opens canton result old new × StopsWithin old new c × (t ≡ after_stop c s.log)
 
--- the events of a night, each with what it makes of the stretch
+-- the events of a night, each with the stretch after it
 abbrev pub IsNight : {K : Keeper} → Canton → Stretch K → List (Event K × Stretch K) → Type 0
 IsNight canton s [] = Unit {0}
 IsNight canton s (e ∷ es) = Allows canton s e.0 e.1 × IsNight canton e.1 es
 
--- the ledger counts what was kept and what was acknowledged; while it met no fault, this is all that was accepted, and each
--- image is the one that it knows
+-- the ledger counts what was kept and what was acknowledged; if it has met no fault, this is all that was accepted, and it
+-- knows each image
 pub record IsCurrent (canton : Canton) (kept : List Command) (now : Moment) (log : Log) (ledger : Ledger) : Type 0 where
   pub count : ledger.tally ≡ after (empty canton) (kept ++ take log.acknowledged log.accepted)
   pub all_acknowledged : ledger.store.broken ≡ false → log.acknowledged ≡ length log.accepted
   pub images : ledger.store.broken ≡ false → (c : List ℕ) → IsImage now c → HoldsLedger ledger c
 
--- Between two events, where the stretches before kept these commands: each image stands for the count with them and the
--- first of those accepted since, in order, among them all that were acknowledged, which are all but one at most.
+-- Between two events, if the stretches before kept these commands: each image represents the count after these and the first of
+-- those accepted since, in order, including all that were acknowledged. At most one accepted command was not acknowledged.
 pub record IsSound {K : Keeper} (canton : Canton) (kept : List Command) (s : Stretch K) : Type 0 where
   pub each : (c : List ℕ) → IsImage s.now c → HasSome (after (empty canton) kept) s.log.accepted s.log.acknowledged c
   pub last : length s.log.accepted ≤ s.log.acknowledged + 1
   pub ledger : IfSome s.holder (λ holder. IsCurrent canton kept s.now s.log (K.ledger holder))
 
--- an opening found the count with the commands kept before and the first of those accepted since, in order, among them all
--- that were acknowledged; each is counted once
+-- an opening found the count after the commands that were kept before and the first of those accepted since, in order,
+-- including all that were acknowledged; each is counted once
 pub record Finds (canton : Canton) (kept : List Command) (log : Log) (ledger : Ledger) : Type 0 where
   pub number : ℕ
   pub at_least : log.acknowledged ≤ number
@@ -127,13 +127,13 @@ Says {K} canton kept log (opened holder) Then =
 Says canton kept log (refused fault) Then = ((fault ≡ faults.Memory) ⊎ (fault ≡ faults.Device)) × Then kept
 Says canton kept log event Then = Then kept
 
--- event by event
+-- what the events of a night say, one after another
 abbrev pub IsKeptAllNight : {K : Keeper} → Canton → List Command → Stretch K → List (Event K × Stretch K) → Type 0
 IsKeptAllNight canton kept s [] = IsSound canton kept s
 IsKeptAllNight canton kept s (e ∷ es) =
     IsSound canton kept s × Says canton kept s.log e.0 (λ more. IsKeptAllNight canton more e.1 es)
 
--- every image is one of a formatted disk, and no holder is open yet
+-- every image is one of a formatted disk, no holder is open yet, and nothing is logged
 pub record IsFresh {K : Keeper} (canton : Canton) (s : Stretch K) : Type 0 where
   pub images : (c : List ℕ) → IsImage s.now c → IsNew canton c
   pub holder : s.holder ≡ None

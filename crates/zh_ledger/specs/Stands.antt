@@ -20,7 +20,7 @@ AreAccepted tally [] = Unit {0}
 AreAccepted tally (command ∷ commands) =
     (judge tally command ≡ Accept) × ((tally.accepted < 2 ^ 64 - 1) × AreAccepted (step tally command) commands)
 
--- the records are those of these commands in this format, which are accepted in turn from the one count on and give the other
+-- the records spell commands in this format that are accepted in turn, and that lead from the start to this count
 pub record Replays (format : Format) (start : Tally) (records : List (List ℕ)) (tally : Tally) : Type 0 where
   pub commands : List Command
   pub speakable : All (IsSpeakable format) commands
@@ -28,8 +28,8 @@ pub record Replays (format : Format) (start : Tally) (records : List (List ℕ))
   pub accepted : AreAccepted start commands
   pub count : tally ≡ after start commands
 
--- the set-up bytes are those of this count's set-up, and its records lead from the count of its snapshot to this one, both
--- in this format
+-- the set-up bytes are those of this count's set-up, and the records lead from the count of the snapshot to this one, both in
+-- this format
 pub record StandsFor (format : Format) (x : Content) (tally : Tally) : Type 0 where
   pub setup : x.setup ≡ setup_spelling tally.canton
   pub start : Tally
@@ -38,7 +38,7 @@ pub record StandsFor (format : Format) (x : Content) (tally : Tally) : Type 0 wh
   pub snapshot : IsPayload format start x.snapshot
   pub replays : Replays format start x.records tally
 
--- these bytes are framed, with a content that stands for this count
+-- these bytes are framed, with a content that represents this count
 pub record HoldsFramed (tally : Tally) (bytes : List ℕ) : Type 0 where
   pub content : Content
   pub end : ℕ
@@ -46,7 +46,7 @@ pub record HoldsFramed (tally : Tally) (bytes : List ℕ) : Type 0 where
   pub framed : IsFramed content end bytes
   pub stands : StandsFor format content tally
 
--- a clean image that stands for this count
+-- a clean image that represents this count
 pub record Holds (tally : Tally) (c : List ℕ) : Type 0 where
   pub content : Content
   pub end : ℕ
@@ -54,7 +54,7 @@ pub record Holds (tally : Tally) (c : List ℕ) : Type 0 where
   pub clean : IsClean content end c
   pub stands : StandsFor format content tally
 
--- a clean image that is the one that the ledger knows, and stands for the ledger's count
+-- a clean image that the ledger knows, and that represents the ledger's count
 pub record HoldsLedger (s : Ledger) (c : List ℕ) : Type 0 where
   pub content : Content
   pub end : ℕ

@@ -18,7 +18,7 @@ pub record OnDisk (S : Type 0) : Type 0 where
 abbrev pub on_disk : {S : Type 0} → S → History → OnDisk S
 on_disk holder history = record { holder = holder; history = history }
 
--- the same of the ledger in it alone
+-- the same with only the ledger in it
 abbrev pub of_ledger : {S : Type 0} → (S → Ledger) → OnDisk S → OnDisk Ledger
 of_ledger ledger o = on_disk (ledger o.holder) o.history
 
@@ -33,13 +33,13 @@ nothing = record { accepted = []; acknowledged = 0 }
 abbrev pub followed_by : Log → Log → Log
 followed_by a b = record { accepted = a.accepted ++ b.accepted; acknowledged = a.acknowledged + b.acknowledged }
 
--- what a command with this outcome adds: `Stored` acknowledges it, and after `Device` the disk may hold it or not
+-- what a command with this outcome adds to the log: `Stored` acknowledges it; after `Device`, the disk may or may not hold it
 abbrev pub logged : Command → Outcome → Log
 logged command (Stored accepted) = record { accepted = command ∷ []; acknowledged = 1 }
 logged command Device = record { accepted = command ∷ []; acknowledged = 0 }
 logged command outcome = nothing
 
--- The command has this outcome, and then the ledger and its disk hold this; it adds this to the log.
+-- The command has this outcome, leads to this ledger and disk, and adds this to the log.
 pub record Submission (old : OnDisk Ledger) (command : Command) (outcome : Outcome) (new : OnDisk Ledger) : Type 0 where
   pub results : MayResult old.holder command outcome
   pub after : Becomes old.holder command outcome new.holder
@@ -47,16 +47,16 @@ pub record Submission (old : OnDisk Ledger) (command : Command) (outcome : Outco
   pub log : Log
   pub logs : log ≡ logged command outcome
 
--- command after command is submitted with its outcome
+-- commands are submitted one after another, each with its outcome
 abbrev pub Submits : OnDisk Ledger → List (Command × Outcome) → Log → OnDisk Ledger → Type 0
 Submits old [] log new = (log ≡ nothing) × (new ≡ old)
 Submits old (x ∷ xs) log new =
     (mid : OnDisk Ledger) × (others : Log) × (by : Submission old x.0 x.1 mid)
     × (log ≡ followed_by by.log others) × Submits mid xs others new
 
--- What commands leave: at each moment an image has those accepted up to some, in order, none skipped; at the end it has
--- all that were acknowledged, which are all but one at most, and the ledger counts these. Whatever the images were,
--- nothing outside the two slots is changed.
+-- What commands leave. At each moment, an image has the first of the accepted commands, in order, with none skipped. At the
+-- end, it has at least those that were acknowledged, which are all or all but one, and the ledger counts exactly these. Nothing
+-- outside the two slots changes, whatever the images were.
 pub record IsLogged (old : OnDisk Ledger) (log : Log) (new : OnDisk Ledger) : Type 0 where
   pub each_moment : Leaves (ComesToHave old.holder log.accepted 0) old.history.trail new.history.trail
   pub last_moment : Moves (ComesToHave old.holder log.accepted log.acknowledged) old.history.trail.now new.history.trail.now

@@ -11,14 +11,14 @@ ghost use Rattle.zh_ledger.specs.Stands.{StandsFor};
 ghost use Rattle.zh_ledger.specs.Submissions.{OnDisk, Log, Submits, IsLogged};
 ghost use Rattle.zh_ledger.specs.declared.outcome.Outcome.{Outcome};
 
-/// The bytes of a disk stand for one count of a set-up at most, in one format.
+/// The bytes of a disk represent at most one count of a set-up, in only one format.
 pub fn one_count()
     ensures { (bytes : List ℕ) (x y : Content) (j k : ℕ) (f g : Format) (tally other : Tally)
         → IsFramed x j bytes → IsFramed y k bytes → StandsFor f x tally → StandsFor g y other
         → tally.canton ≡ other.canton → (f ≡ g) × (tally ≡ other) }
 {}
 
-/// What commands that are submitted one after the other leave on an honest disk, at each moment and at the end.
+/// What commands that are submitted one after another leave on an honest disk, at each moment and at the end.
 pub fn submissions()
     ensures { (old : OnDisk Ledger) (commands : List (Command × Outcome)) (log : Log) (new : OnDisk Ledger)
         → IsTrue new.history.honest → Submits old commands log new → IsLogged old log new }
@@ -26,10 +26,10 @@ pub fn submissions()
 
 /// A night of commands, stops and openings on an honest disk that was formatted for the ledger, event by event.
 ///
-/// Each image of the disk stands for the count after all commands that were accepted since the last opening, or after
-/// all but the last, which then nobody acknowledged. So each opening finds, stretch by stretch, the first of the
-/// accepted commands, in order, among them all that were acknowledged, and each once. An opening is refused only for
-/// memory or by the device.
+/// Each image of the disk represents the count after all commands that were accepted since the last opening, or after all but
+/// the last, which then was not acknowledged. So each opening finds, for each stretch between openings, the first of the
+/// accepted commands in order, including all that were acknowledged, each counted once. An opening fails only if memory is
+/// refused or the device fails.
 pub fn nights()
     ensures { Law by_commands }
 {}

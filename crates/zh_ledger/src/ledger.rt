@@ -1,4 +1,4 @@
-//! The ledger: the count, and the disk that keeps it.
+//! The ledger: the count, and the disk on which it is stored.
 
 ghost use Rattle.std.specs.Prelude.{◌≡◌, IfOk, IsErrOf, false, length};
 ghost use Rattle.zh_disk.specs.History.{Call};
@@ -21,13 +21,13 @@ use zh_totals::{RunningCount, Totals};
 
 /// The count of an election on a disk.
 ///
-/// The disk is handed to each call, and must be the one that the ledger was opened on. After a fault of the device every
-/// command is answered `Broken` until a new ledger is opened there.
+/// The disk is passed to each call. It must be the one on which the ledger was opened. After a fault of the device, every
+/// command is answered `Broken` until a new ledger is opened on the disk.
 #[derive(Drop)]
 pub struct Ledger<'s> {
     pub(crate) count: RunningCount<'s>,
     pub(crate) store: Store,
-    // of the slot in use: format One only where no switch is left
+    // of the slot in use: format One only if no switch is left
     pub(crate) format: Format,
     // room for a snapshot or a record
     pub(crate) buffer: Vec<u8>,
@@ -49,7 +49,7 @@ impl<'s> Model for Ledger<'s> {
     ghost invariant = { λ ledger. length ledger.buffer.items ≡ SNAPSHOT_LENGTH };
 }
 
-/// Room for a snapshot or a record.
+/// Room for a snapshot or a record. Fails if memory is refused.
 pub(crate) fn buffer(alloc: Global) -> Result<Vec<u8>, AllocError>
     ensures { IfOk result (λ buffer. length buffer.items ≡ PAYLOAD_LENGTH) }
 {
@@ -57,10 +57,10 @@ pub(crate) fn buffer(alloc: Global) -> Result<Vec<u8>, AllocError>
 }
 
 impl<'s> Ledger<'s> {
-    /// Makes a disk one on which nothing has been returned yet, whatever stands there. Memory is taken before the
-    /// first call of the device.
+    /// Formats a disk: afterwards it holds the empty count, whatever it held before. Memory is allocated before the first call
+    /// of the device.
     pub fn format<D: Disk>(alloc: Global, setup: &Setup, disk: &mut D) -> Result<(), FormatFault>
-        // While the disk is honest this also says what each image is at each moment since the call began.
+        // If the disk is honest, this also says what each image is, at each moment since the call began.
         ensures call { Call store_format_fails (MakesNew setup.now) (D.history disk.old) (D.history disk.new) result }
 
         ensures untouched { IsErrOf result FormatFault.Memory → disk.new ≡ disk.old }
@@ -71,14 +71,14 @@ impl<'s> Ledger<'s> {
         Store::format(alloc, disk, &bytes, &first)
     }
 
-    /// The count as it is now.
+    /// The current count.
     pub fn count(&self) -> &Count<'s>
         ensures { result.now ≡ self.now.tally }
     {
         self.count.count()
     }
 
-    /// The votes of each group in each constituency, of the count as it is now.
+    /// The votes of each group in each constituency, in the current count.
     pub fn totals(&self) -> &Totals<'s>
         ensures { result.now ≡ totals_of self.now.tally }
     {
@@ -92,12 +92,12 @@ impl<'s> Ledger<'s> {
         self.store.is_broken()
     }
 
-    /// Judges a command, and where it is accepted stores it and counts it. It takes no memory.
+    /// Judges a command. If it is accepted, stores it and counts it. It allocates no memory.
     pub fn submit<D: Disk>(&mut self, disk: &mut D, command: &Command<'_>) -> Outcome
         requires numbers { HasNumbers command.now }
 
-        // While the disk is honest this also says what each image holds at each moment since the call began, and that
-        // outside the two slots nothing is changed, whatever the images were.
+        // If the disk is honest, this also says what each image holds, at each moment since the call began, and that nothing
+        // outside the two slots changes, whatever the images were.
         ensures submission { Submission (on_disk self.old (D.history disk.old)) command.now result
             (on_disk self.new (D.history disk.new)) }
 

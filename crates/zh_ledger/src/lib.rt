@@ -1,7 +1,7 @@
 //! The count on a disk.
 //!
-//! A command is judged, kept on the disk, and only then counted. After a stop at any moment an opening finds the count
-//! after a prefix, in order, of the accepted commands that includes every acknowledged one.
+//! A command is judged, stored on the disk, and only then counted. After a stop at any moment, the next opening finds the count
+//! after the first of the accepted commands, in order, including every command that was acknowledged.
 #![tactic(auto)]
 
 mod laws;

@@ -1,4 +1,4 @@
-//! Opening the ledger that stands on a disk.
+//! Opens the ledger on a disk.
 
 ghost use Rattle.std.specs.Prelude.{◌≡◌, ◌≢◌, ◌≤◌, ◌-◌, ◌^◌, false, length, IfOk, OnOk, IsErrOf, is_err, ◌<◌, ℕ, ◌∷◌, true, List, []};
 ghost use Rattle.zh_disk.specs.Disk.{Asks};
@@ -31,9 +31,9 @@ use zh_totals::RunningCount;
 pub enum OpenFault {
     Memory,
     Device,
-    /// The disk gate is closed: nothing was formatted there.
+    /// The disk gate is closed: the disk is not formatted.
     Blank,
-    /// What stands on the disk breaks a rule of the format.
+    /// The content of the disk breaks a rule of the format.
     Damaged,
     /// The disk was formatted for another set-up.
     SetupDiffers,
@@ -96,18 +96,19 @@ impl From<zh_snapshot::OpenFault> for OpenFault {
 }
 
 impl<'s> Ledger<'s> {
-    /// Opens the ledger that a disk holds: a sync, then reads alone, and where the slot in use is of format One a switch to
-    /// the same count in format Two, if a generation is left for it. Memory is taken before the first of them.
+    /// Opens the ledger on a disk: a sync, and then only reads. If the slot in use has format One, a switch to the same count
+    /// in format Two follows, provided that a generation is left for it. Memory is allocated before the first call of the
+    /// device.
     ///
-    /// `Blank` comes where the disk gate is closed; `Damaged` where header, slot or records break a rule of
-    /// docs/FORMATS.md; `SetupDiffers` where they are right and the disk's set-up is another; and `Damaged` again where
-    /// the set-up is the same and the snapshot or a record is not one of an election with that set-up.
+    /// The fault is `Blank` if the disk gate is closed; `Damaged` if the header, the slot or the records break a rule of
+    /// docs/FORMATS.md; `SetupDiffers` if they are right but the disk has another set-up; and `Damaged` also if the set-up is
+    /// the same but the snapshot or a record does not belong to an election with that set-up.
     pub fn open<D: Disk>(
         alloc: Global,
         setup: &'s Setup,
         disk: &mut D,
     ) -> Result<Ledger<'s>, OpenFault>
-        // While the disk is honest this also says what each image is at each moment since the call began.
+        // If the disk is honest, this also says what each image is, at each moment since the call began.
         ensures opening { Opening setup.now (D.history disk.old) (D.history disk.new) result }
 
         ensures untouched { IsErrOf result OpenFault.Memory → disk.new ≡ disk.old }
@@ -127,8 +128,8 @@ impl<'s> Ledger<'s> {
     }
 }
 
-/// Reads the count that stands on a store's disk, and gives its format: the snapshot, and over it the records that the
-/// reader has left. The count given is the one before the first return, of the set-up that has these bytes.
+/// Reads the count on a store's disk: the snapshot, and then the records that the reader has not read yet. Returns its format.
+/// `count` must be the empty count of the set-up that has these bytes.
 fn read_count<D: Disk>(
     disk: &mut D,
     store: &Store,
@@ -162,8 +163,8 @@ fn read_count<D: Disk>(
     Ok(format)
 }
 
-/// Where the slot in use is of format One, switches to the same count in format Two, and gives the format of the slot that
-/// is in use then. At the last generation no switch is left.
+/// If the slot in use has format One, switches to the same count in format Two. Returns the format of the slot that is in use
+/// afterwards. At the last generation, no switch is left.
 fn migrate<D: Disk>(
     format: Format,
     count: &RunningCount<'_>,
@@ -190,8 +191,8 @@ fn migrate<D: Disk>(
     }
 }
 
-/// Applies the commands of the records of a format that a reader has left to the count, in order, and reports whether
-/// each is accepted.
+/// Applies the commands of the records that a reader has not read yet, in this format and in order, to the count. False at the
+/// first record that has no accepted command.
 fn replay(
     reader: &mut Reader,
     format: Format,
@@ -215,7 +216,8 @@ fn replay(
     true
 }
 
-/// Applies the command of a record to the count, if the record has one that is accepted, and reports whether it has.
+/// Applies the command of a record to the count. False if the record has no command that is accepted; then the count is
+/// unchanged.
 fn replay_record(payload: &[u8], format: Format, count: &mut RunningCount<'_>) -> bool
     ensures replayed { result ≡ true → Replays format count.old (payload.now ∷ []) count.new }
     ensures refused { result ≡ false → (command : Command) → IsSpeakable format command

@@ -1,20 +1,21 @@
-//! What became of a command.
+//! The outcome of a command.
 use zh_returns::Reason;
 
-/// What became of a command that was submitted.
+/// The outcome of a command that was submitted.
 #[derive(Clone, Copy)]
 pub enum Outcome {
-    /// It is on the disk and counted; so many commands are accepted, with this one.
+    /// It is on the disk and counted. The number is that of all accepted commands, including this one.
     Stored(u64),
-    /// What it says is held already.
+    /// Its content is already held.
     Same,
-    /// The count refuses it.
+    /// The count refuses it, for this reason.
     Refused(Reason),
-    /// It is accepted, and 2^64 - 1 commands are accepted already; or the journal has too few pages left for it, and the
-    /// generation of the snapshot is 2^64 - 1.
+    /// It would be accepted but cannot be stored: 2^64 - 1 commands are already accepted; or the journal has too few pages left
+    /// for it, and the generation of the snapshot is 2^64 - 1; or the slot in use has format One, in which nothing is written
+    /// any more.
     Spent,
-    /// It is accepted, and the device failed: the disk may hold it or not, and the count is without it.
+    /// It is accepted, but the device failed: the disk may or may not hold it, and it is not counted.
     Device,
-    /// The device failed before, and nothing is judged until the disk is opened again.
+    /// The device has failed before. Nothing is judged until the disk is opened again.
     Broken,
 }

@@ -1,4 +1,5 @@
-//! A command on the disk: its record is appended, after a switch where room is short, and then the count has it.
+//! A command on the disk: its record is appended, after a switch if too little room is left, and then it is applied to the
+//! count.
 
 ghost use Rattle.std.specs.Prelude.{◌≡◌, ◌≢◌, ◌↔◌, ◌<◌, ◌-◌, ◌^◌, true, false, length, take, OnOk, IfOk, IsErrOf};
 ghost use Rattle.zh_disk.specs.History.{Call};
@@ -21,8 +22,8 @@ use zh_returns::{Command, PAYLOAD_LENGTH, Verdict, encode_command};
 use zh_snapshot::{AppendFault, Store, SwitchFault};
 use zh_totals::RunningCount;
 
-/// Stores a command that was judged acceptable, if the count has a number left for it and the disk has room, and then
-/// applies it to the count. The buffer is for a snapshot or a record.
+/// Stores a command that was judged acceptable, if the count has a number left for it and the disk has room, and then applies
+/// it to the count. The buffer is used for a snapshot or a record.
 pub(crate) fn keep<D: Disk>(
     count: &mut RunningCount<'_>,
     store: &mut Store,
@@ -51,9 +52,9 @@ pub(crate) fn keep<D: Disk>(
     }
 }
 
-/// Writes the record of a command to the front of the buffer, gives its length, and makes room for it on the disk: where
-/// too few pages are left, the store switches to the disk's other slot, with the count as its snapshot. The snapshot
-/// goes through the same buffer, so the record is written again after it.
+/// Writes the record of a command to the front of the buffer, returns its length, and makes room for it on the disk. If too few
+/// pages are left, the store switches to the disk's other slot, with the count as its snapshot. The snapshot uses the same
+/// buffer, so the record is written again after it.
 fn make_room<D: Disk>(
     count: &RunningCount<'_>,
     store: &mut Store,
@@ -111,8 +112,8 @@ fn append<D: Disk>(
     }
 }
 
-/// Writes the count as a snapshot of format Two into the other slot of its store, which is in use from then on: one
-/// generation later, and without records. The snapshot goes through the buffer.
+/// Writes the count as a snapshot in format Two into the other slot of its store. From then on, that slot is in use, one
+/// generation later and without records. The buffer is used for the snapshot.
 pub(crate) fn switch<D: Disk>(
     count: &RunningCount<'_>,
     store: &mut Store,
@@ -122,8 +123,8 @@ pub(crate) fn switch<D: Disk>(
     requires buffer { length buffer.old ≡ PAYLOAD_LENGTH }
     requires whole { store.old.broken ≡ false }
 
-    // Each image at each moment has the content from the start, or the count as its snapshot; whatever it was, nothing
-    // outside the other slot is changed.
+    // At each moment, each image has the content from the start, or the count as its snapshot. Nothing outside the other slot
+    // changes, whatever the image was.
     ensures call { Call store_switch_fails (StoreSwitch store.old (payload_spelling Format.Two count.now))
         (D.history disk.old) (D.history disk.new) result }
 

@@ -18,7 +18,7 @@ use Rattle.zh_lower.specs.SeatBounds.{least_at, least_seats, most_at, most_seats
 use Rattle.zh_lower.specs.States.{is_half}
 use Rattle.zh_lower.proofs.PlaceLemmas.{half_there}
 
--- what n / p may round to is at least itself rounded half down, and at most itself rounded half up
+-- s is at least n / p rounded half down and at most n / p rounded half up, both capped at 401
 record IsBetween (n p s : ℕ) : Type 0 where
   from : min 401 (half_down n p) ≤ s
   to : s ≤ min 401 (half_up n p)
@@ -72,7 +72,7 @@ may_round n p s positive few is =
           rw odd (lower-odd n p (s - 1) lower);
     }
 
--- half up is half down, or one more
+-- rounded half up is at most one more than rounded half down
 up-near : (m p s : ℕ) → 0 < p → m - 1 < (s + 1) * (2 * p) → m < (s + 2) * (2 * p)
 up-near m p s positive below = omega (arith, below)
 
@@ -84,7 +84,7 @@ up-down n p positive =
     let above : (2 * n + p) / (2 * p) < (2 * n + p - 1) / (2 * p) + 2 = (div-lt_iff_lt-mul twice).1 near in
     omega (arith, above)
 
--- a row's total is at most 400, and so is each of its cells
+-- a row has at most 400 seats, and so has each of its cells
 few_seats : (q : Question) (s : List ℕ) (d g : ℕ) → IsProper q → RowsAddUp q s → d < q.rows → g < q.columns → cell q.columns s d g ≤ 400
 few_seats q s d g proper add_up dw gw =
     let total : get_or q.row_totals d 0 ≤ 400 = proper.row_totals.at_most_400 d 0 (omega (arith, proper.row_totals.one_each)) in
@@ -113,7 +113,7 @@ most-cell q x d g dw gw =
     (place-within q.rows q.columns d g dw gw) (omega arith)
     ∙ ap (λ p. min 401 (half_up (cell q.columns q.votes d g * 10 ^ 12) p)) (product-cell q x d g gw)
 
--- what follows weakly is within the bounds
+-- a matrix that follows weakly is within the bounds
 weak-between : (q : Question) (of_rows of_columns s : List ℕ) → IsProper q → IsWeak q (millionths of_rows of_columns) s →
     (d g : ℕ) → d < q.rows → g < q.columns →
     IsBetween (cell q.columns q.votes d g * 10 ^ 12) (get_or of_rows d 0 * get_or of_columns g 0) (cell q.columns s d g)
@@ -147,7 +147,7 @@ within-between q x s within d g dw gw = record {
   to = rw (most-cell q x d g dw gw) at (within.at_most d g dw gw);
 }
 
--- and what is within them follows weakly
+-- a matrix within the bounds follows weakly
 pub within-weak : (q : Question) (of_rows of_columns s : List ℕ) → IsProper q → AreWithinLimits q of_rows of_columns →
     IsWithin q (seat_bounds q (millionths of_rows of_columns)) s → IsWeak q (millionths of_rows of_columns) s
 within-weak q of_rows of_columns s proper limits within = record {
@@ -163,7 +163,7 @@ within-weak q of_rows of_columns s proper limits within = record {
       (within-between q (millionths of_rows of_columns) s within d g dw gw);
 }
 
--- the most of a cell is its least, or one more
+-- the upper bound of a cell is at most one more than its lower bound
 pub most-near : (q : Question) (of_rows of_columns : List ℕ) (k : ℕ) → AreWithinLimits q of_rows of_columns → k < q.rows * q.columns →
     get_or (most_seats q (millionths of_rows of_columns)) k 0 ≤ get_or (least_seats q (millionths of_rows of_columns)) k 0 + 1
 most-near q of_rows of_columns k limits within =
@@ -178,7 +178,7 @@ most-near q of_rows of_columns k limits within =
     )
     (omega (arith, near))
 
--- no two matrices are within them, so no two follow
+-- if there are no two different matrices within the bounds, no two different ones follow
 pub not_tied : (q : Question) (of_rows of_columns : List ℕ) → IsProper q →
     ((s t : List ℕ) → IsWithin q (seat_bounds q (millionths of_rows of_columns)) s →
     IsWithin q (seat_bounds q (millionths of_rows of_columns)) t → s ≡ t) → IsNotTied q (millionths of_rows of_columns)
@@ -194,7 +194,7 @@ two_ways q of_rows of_columns s t proper limits one other differ = record {
   differ = differ;
 }
 
--- the same of what is left in a room
+-- the same for the matrices in a room
 pub two-left : (q : Question) (of_rows of_columns least most one other seats others : List ℕ) (result : Bool) → IsProper q →
     AreWithinLimits q of_rows of_columns → least ≡ least_seats q (millionths of_rows of_columns) →
     most ≡ most_seats q (millionths of_rows of_columns) → seats ≡ one → others ≡ other →
@@ -214,7 +214,7 @@ none-left q of_rows of_columns least most true proper least_is most_is none = tt
 none-left q of_rows of_columns least most false proper least_is most_is none =
     not_tied q of_rows of_columns proper (rw (least_is, most_is) at none)
 
--- without a half a quotient rounds to one number alone
+-- a quotient that is not on a half rounds to only one number
 squeezed : (n p r t : ℕ) → (2 * r + 1) * p ≤ 2 * n → 2 * n ≤ (2 * t + 1) * p → t ≤ r → 2 * n + p ≡ (2 * p) * (r + 1)
 squeezed n p r t lower upper le =
     let odd : 2 * t + 1 ≤ 2 * r + 1 = omega arith in

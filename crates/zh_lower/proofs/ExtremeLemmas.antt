@@ -1,4 +1,4 @@
--- Rows that rise and columns that fall only as far as they have to.
+-- Rows that rise, and columns that fall, only as far as they have to.
 use Rattle.std.proofs.Common.{◌≡◌, ℕ, ◌+◌, ◌-◌, ◌*◌, ◌/◌, ◌^◌, ◌<◌, ◌≤◌, max, min, List, length, get_or, set, inl, inr, sym, ◌∙◌, arith}
 use Rattle.std.proofs.lemmas.Bool.{cases_eq}
 use Rattle.std.proofs.lemmas.List.{ext_get_or, get_or-set_other, get_or-set_same}
@@ -10,21 +10,21 @@ use Rattle.zh_lower.specs.Extremes.{Enclose, Give, IsAbove, IsBelow, NoneGive}
 use Rattle.zh_lower.specs.Second.{IsGreatest}
 use Rattle.zh_matrices.proofs.CallerLemmas.{only_seats, weakened}
 
--- a cell below its upper half stays so under a larger divisor
+-- a quotient below a half stays below it with a larger divisor
 pub still_below : (n a m m' c : ℕ) → m ≤ m' → n < a * (m * c) → n < a * (m' * c)
 still_below n a m m' c le below = omega (arith, mul-le-mul_left a (mul-le-mul_right c le))
 
--- and above its lower one under a smaller divisor
+-- a quotient above a half stays above it with a smaller divisor
 pub still_above : (n a r m m' : ℕ) → m' ≤ m → a * (r * m) < n → a * (r * m') < n
 still_above n a r m m' le above = omega (arith, mul-le-mul_left a (mul-le-mul_left r le))
 
--- the quotient and one more is the least number above
+-- n / (a c) + 1 is the least number x with n < a x c
 pub least_below : (n a c : ℕ) → 0 < a * c → n < a * ((n / (a * c) + 1) * c)
 least_below n a c positive =
     let divided : n < a * c * (n / (a * c) + 1) = omega arith in
     omega (arith, divided)
 
--- the quotient of one less is the greatest number below
+-- (n - 1) / (a r) is the greatest number x with a r x < n
 pub greatest_above : (n a r : ℕ) → 0 < a * r → 1 ≤ n → a * (r * ((n - 1) / (a * r))) < n
 greatest_above n a r positive some =
     let divided : a * r * ((n - 1) / (a * r)) ≤ n - 1 = mul-div-le (n - 1) (a * r) in
@@ -51,7 +51,7 @@ pub lowered-greatest : (n a r divisor result other : ℕ) → 0 < a * r → resu
     a * (r * other) < n → other ≤ result
 lowered-greatest n a r divisor result other positive is within above = omega (arith, greatest_greatest n a r other positive above)
 
--- divisors that give the seats, under columns that are no lower, are below their upper halves
+-- row divisors that give the seats keep every quotient below the half above its seats, also with greater column divisors
 IsBelow-given : (q : Question) (top d : ℕ) (seats of_columns rows columns : List ℕ) → Give q top seats rows columns → d < q.rows →
     ((g : ℕ) → g < q.columns → get_or columns g 0 ≤ get_or of_columns g 0) → IsBelow q seats of_columns d (get_or rows d 0)
 IsBelow-given q top d seats of_columns rows columns give dw above g gw =
@@ -66,7 +66,7 @@ IsAbove-given q top g seats of_rows rows columns give gw below d dw some =
     let less = mul-le-mul_left (2 * cell q.columns seats d g - 1) (mul-le-mul_right (get_or columns g 0) (below d dw)) in
     omega (arith, strict, less)
 
--- a row that rises no further than its cells ask for
+-- a row rises only as far as its cells require
 pub Enclose-row : (q : Question) (top d value : ℕ) (seats of_rows of_columns : List ℕ) → d < q.rows → length of_rows ≡ q.rows →
     ((other : ℕ) → get_or of_rows d 0 ≤ other → IsBelow q seats of_columns d other → value ≤ other) →
     Enclose q top seats of_rows of_columns → Enclose q top seats (set of_rows d value) of_columns
@@ -89,7 +89,7 @@ NoneGive-row q top d value seats of_rows of_columns dw out least enclose rows co
     let within : get_or rows d 0 ≤ 10 ^ 18 = give.rows.at_most d 0 (omega (arith, give.rows.one_each)) in
     omega (arith, within, out, least (get_or rows d 0) (before.rows d dw) (IsBelow-given q top d seats of_columns rows columns give dw before.columns))
 
--- and a column that falls no further
+-- a column falls only as far as its cells require
 pub Enclose-column : (q : Question) (top g value : ℕ) (seats of_rows of_columns : List ℕ) → g < q.columns → length of_columns ≡ q.columns →
     ((other : ℕ) → other ≤ get_or of_columns g 0 → IsAbove q seats of_rows g other → other ≤ value) →
     Enclose q top seats of_rows of_columns → Enclose q top seats of_rows (set of_columns g value)
@@ -112,7 +112,7 @@ NoneGive-column q top g seats of_rows of_columns gw greatest enclose rows column
     let positive : 1 ≤ get_or columns g 0 = give.columns.from_1 g 0 (omega (arith, give.columns.one_each)) in
     omega (arith, positive, greatest (get_or columns g 0) (before.columns g gw) (IsAbove-given q top g seats of_rows rows columns give gw before.rows))
 
--- what encloses all that give the seats, and gives them itself, is the greatest
+-- columns that enclose all those that give the seats, and give them too, are the greatest
 pub IsGreatest-of : (q : Question) (top : ℕ) (seats of_rows of_columns : List ℕ) → Enclose q top seats of_rows of_columns →
     Give q top seats of_rows of_columns → IsGreatest q top of_columns
 IsGreatest-of q top seats of_rows of_columns enclose give = record {
@@ -125,7 +125,7 @@ IsGreatest-of q top seats of_rows of_columns enclose give = record {
       (enclose some.of_rows others also).columns g gw;
 }
 
--- of two greatest columns each is the other
+-- the greatest columns are unique
 pub same_greatest : (q : Question) (top : ℕ) (one other : List ℕ) → IsGreatest q top one → IsGreatest q top other → other ≡ one
 same_greatest q top one other greatest also =
     ext_get_or 0 other one (also.give.give.columns.one_each ∙ sym greatest.give.give.columns.one_each) (λ g lt.

@@ -1,4 +1,4 @@
--- Seats by a decision.
+-- Seats that a decision gives.
 use Rattle.std.proofs.Common.{ℕ, ◌≤◌, All, List, sym, ◌∙◌}
 use Rattle.zh_decided.specs.Boxes.{NoneGiven}
 use Rattle.zh_divisors.proofs.CallerLemmas.{sum_to-ext}
@@ -14,18 +14,18 @@ use Rattle.zh_decided.specs.declared.decision.Decision.TheVariants.{Beyond, Impo
 use Rattle.zh_lower.specs.Tried.{AreTried}
 use Rattle.zh_decided.proofs.CallerLemmas.{fits-weak, few-fitting}
 
--- seats that follow from any divisors are few
+-- seats that follow from divisors are at most 400 in each cell
 pub few-strict : (q : Question) (x : Divisors) (seats : List ℕ) → AreSeatTotals q.rows q.row_totals → IsStrict q x seats →
     All (λ s. s ≤ 400) seats
 few-strict q x seats totals strict = few-fitting q seats totals (fits-weak q x seats (weakened q x seats strict))
 
--- and as many in the rows as in the columns
+-- if seats follow, the row totals and the column totals have the same sum
 pub balanced : (q : Question) (x : Divisors) (seats : List ℕ) → IsWeak q x seats → AreBalanced q
 balanced q x seats S =
     sym (sum_to-ext q.rows _ _ S.rows_add_up) ∙ total-swap q.rows q.columns (cell q.columns seats)
     ∙ sum_to-ext q.columns _ _ S.columns_add_up
 
--- what was tried in vain gives no seats
+-- a decision that was tried in vain gives no divisors
 pub none_given : (q : Question) (findings : Findings) (decision : Decision) → LeavesNone q decision → AreTried q findings decision → NoneGiven q
 none_given q findings (Impossible rows) leaves tried = leaves
 none_given q findings Seats leaves tried = absurd tried

@@ -16,7 +16,7 @@ pub filled : (f : ℕ → ℕ) (xs : List ℕ) (i value : ℕ) → i < length xs
     (k : ℕ) → k < i + 1 → get_or (set xs i value) k 0 ≡ f k
 filled f xs i value within is done = rw is (fill_by_more f xs i 0 within done)
 
--- a fact of each place that is filled
+-- a property of each place that is filled
 pub each_filled : (P : ℕ → Type 0) (xs : List ℕ) (i value : ℕ) → i < length xs → P value → ((k : ℕ) → k < i → P (get_or xs k 0)) →
     (k : ℕ) → k < i + 1 → P (get_or (set xs i value) k 0)
 each_filled P xs i value within here done k lt = elim (cases_eq k i) [
@@ -40,7 +40,7 @@ AreWithin-filled n most xs long one small = record {
   at_most = All-from_get_or (λ x. x ≤ most) xs 0 (λ d lt. small d (omega arith));
 }
 
--- of n divisors the first i are renewed, and the others are as before
+-- the first i of n divisors are renewed, and the others are unchanged
 pub record AreRenewed (n most : ℕ) (f : ℕ → ℕ) (before xs : List ℕ) (i : ℕ) : Type 0 where
   pub done : (k : ℕ) → k < i → get_or xs k 0 ≡ f k
   pub rest : (k : ℕ) → i ≤ k → get_or xs k 0 ≡ get_or before k 0
@@ -73,7 +73,7 @@ pub all_renewed : (n most : ℕ) (f : ℕ → ℕ) (before xs : List ℕ) (i : �
 all_renewed n most f before xs i all renewed =
     fill_by_all f xs n 0 renewed.divisors.one_each (λ k lt. renewed.done k (omega arith))
 
--- all columns stand at 1
+-- the columns of the start, all at 1, are within the limits
 pub AreWithin-started : (q : Question) (xs : List ℕ) → xs ≡ started_columns q → AreWithin q.columns (10 ^ 12) xs
 AreWithin-started q xs is =
     let long : length xs ≡ q.columns = ap length is ∙ length-map-range_with_len (λ g. 1000000) 0 q.columns in
@@ -81,7 +81,7 @@ AreWithin-started q xs is =
     = λ g lt. ap (λ ys. get_or ys g 0) is ∙ get_or-map-range_with_len (λ g. 1000000) 0 q.columns g g 0 lt (omega arith) in
     AreWithin-filled q.columns (10 ^ 12) xs long (λ g lt. omega (arith, at g lt)) (λ g lt. omega (arith, at g lt))
 
--- as the code makes them
+-- the columns and rows of the start, as the code makes them
 pub started-replicate : (q : Question) → replicate q.columns 1000000 ≡ started_columns q
 started-replicate q =
     fill_by_all (λ g. 1000000) (replicate q.columns 1000000) q.columns 0 (length-replicate q.columns 1000000)

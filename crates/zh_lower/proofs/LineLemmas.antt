@@ -1,4 +1,4 @@
--- The rows and the columns of a question as lines of the line rule.
+-- The rows and the columns of a question as lines.
 use Rattle.std.proofs.Common.{◌≡◌, ℕ, zero, suc, ◌+◌, ◌*◌, ◌/◌, ◌^◌, ◌<◌, ◌≤◌, Bool, true, false, if◌then◌else◌, nat_le, List, length, get_or, slice_index, inl, inr, refl, sym, ap, ◌∙◌, arith}
 use Rattle.std.proofs.lemmas.Bool.{cases_lt}
 use Rattle.std.proofs.lemmas.List.{get_or_default}
@@ -33,7 +33,7 @@ half_down_total-same : (n : ℕ) (v w others : ℕ → ℕ) (D : ℕ) → ((i : 
 half_down_total-same n v w others D same =
     sum_to-ext n _ _ (λ i lt. ap (λ x. half_down (x * 10 ^ 12) (others i * D)) (same i lt))
 
--- a line's divisor sees its votes alone
+-- the divisor of a line depends only on its first n votes
 line_divisor-same : (n : ℕ) (v w others : ℕ → ℕ) (total most : ℕ) → ((i : ℕ) → i < n → v i ≡ w i) →
     line_divisor n v others total most ≡ line_divisor n w others total most
 unfolding limit_of
@@ -48,7 +48,7 @@ line_divisor-same n v w others total most same =
     ap (λ x. clamped most ((x + greatest_divisor n v others total) / 2)) least
     ∙ ap (λ x. clamped most ((least_divisor n w others total + x) / 2)) greatest
 
--- a list that holds n votes, one of them positive, with the other side's divisors
+-- n votes, one of them positive, with the divisors of the crossing lines
 IsMatrixLine-of : (n most : ℕ) (f : ℕ → ℕ) (votes others : List ℕ) → n ≤ 32 → most ≤ 10 ^ 18 → length votes ≡ n →
     ((i : ℕ) → i < n → get_or votes i 0 ≡ f i) → ((i : ℕ) → i < n → f i ≤ 10 ^ 14) → 0 < sum_to n f →
     AreWithin n most others → IsMatrixLine votes others
@@ -86,7 +86,7 @@ column_line q g column of_rows sized proper within long at divisors =
     IsMatrixLine-of q.rows (10 ^ 18) (column_votes q g) column of_rows sized.few_rows (omega arith) long at
     (λ d _. each_cell q sized d g) (proper.column_votes g within) divisors
 
--- what the code computes of its list is the divisor of the definition
+-- what the code computes from its lists is the divisor of the definition
 pub started_is : (n total most : ℕ) (f : ℕ → ℕ) (votes others starts : List ℕ) (value : ℕ) → length votes ≡ n →
     ((i : ℕ) → i < n → get_or votes i 0 ≡ f i) → others ≡ starts →
     value ≡ line_divisor (length votes) (slice_index votes) (slice_index others) total most →
@@ -119,7 +119,7 @@ renewed_by_line n total most f votes others E value some long at unsettled is =
       at_most = at_most;
     }
 
--- and of a settled one
+-- a settled line keeps its divisor
 pub renewed_kept : (n total most : ℕ) (f : ℕ → ℕ) (others : List ℕ) (E : ℕ) → is_unsettled n f (slice_index others) total E ≡ false →
     E ≡ renewed n f (slice_index others) total most E
 renewed_kept n total most f others E settled =

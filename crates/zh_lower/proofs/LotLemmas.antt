@@ -1,4 +1,4 @@
--- The range of a cell in all matrices that may be drawn.
+-- The range of a cell over all matrices that may be drawn.
 use Rattle.std.proofs.Common.{◌≡◌, ◌≢◌, ℕ, ◌+◌, ◌*◌, ◌/◌, ◌%◌, ◌<◌, ◌≤◌, List, length, get_or, set, slice_index, inl, inr, refl, ap, ◌∙◌, arith}
 use Rattle.std.proofs.lemmas.Bool.{cases_lt}
 use Rattle.std.proofs.lemmas.List.{get_or-set_other, get_or-set_same}
@@ -14,11 +14,11 @@ use Rattle.zh_lower.proofs.BoundLemmas.{most-near, weak-within, within-weak}
 use Rattle.zh_lower.specs.Ties.{EncloseDraws, HasRangeAt, IsLowerTie}
 use Rattle.zh_lower.specs.declared.tie.Tie.{Tie}
 
--- the cell that is kept in a place
+-- the cell in a place
 there : (q : Question) (seats : List ℕ) (place : ℕ) → cell q.columns seats (place / q.columns) (place % q.columns) ≡ slice_index seats place
 there q seats place = ap (λ p. slice_index seats p) (div-add-mod' place q.columns)
 
--- what a matrix within the bounds has in a place
+-- a matrix within the bounds, in a place
 at_least : (q : Question) (bounds : CellBounds) (seats : List ℕ) (place : ℕ) → place < q.rows * q.columns → IsWithin q bounds seats →
     slice_index bounds.least place ≤ slice_index seats place
 at_least q bounds seats place lt within =
@@ -39,7 +39,7 @@ drawn_there q bounds seats place number enclose within is = record {
   there = there q seats place ∙ is;
 }
 
--- from what all matrices within the bounds have there
+-- the range of a cell, from all matrices within the bounds
 range_there : (q : Question) (bounds : CellBounds) (place least most : ℕ) → EncloseDraws q bounds →
     ((seats : List ℕ) → IsWithin q bounds seats → least ≤ slice_index seats place) →
     ((seats : List ℕ) → IsWithin q bounds seats → slice_index seats place ≤ most) →
@@ -53,7 +53,7 @@ range_there q bounds place least most enclose below above one other = record {
   most_drawn = other;
 }
 
--- a cell that has other seats in another matrix has both its bounds
+-- if some matrix has a different number in a cell, the range of the cell is its two bounds
 pub open_range : (q : Question) (bounds : CellBounds) (seats others : List ℕ) (place : ℕ) → place < q.rows * q.columns →
     EncloseDraws q bounds → IsWithin q bounds seats → IsAnotherAt q bounds seats place others →
     HasRangeAt q place (slice_index bounds.least place) (slice_index bounds.most place)
@@ -79,14 +79,14 @@ open_range q bounds seats others place lt enclose within differs =
           ]
     ]
 
--- one that has not has the seats of each
+-- if none has, the range is the number of seats that all have there
 pub fixed_range : (q : Question) (bounds : CellBounds) (seats : List ℕ) (place : ℕ) → EncloseDraws q bounds → IsWithin q bounds seats →
     IsFixedAt q bounds seats place → HasRangeAt q place (slice_index seats place) (slice_index seats place)
 fixed_range q bounds seats place enclose within fixed =
     let here = drawn_there q bounds seats place (slice_index seats place) enclose within refl in
     range_there q bounds place _ _ enclose (λ s w. omega (arith, fixed s w)) (λ s w. omega (arith, fixed s w)) here here
 
--- where the bounds leave one number, all matrices have it
+-- if the bounds of a cell leave one number, all matrices have it there
 pub fixed_by_bounds : (q : Question) (bounds : CellBounds) (seats : List ℕ) (place : ℕ) → place < q.rows * q.columns → IsWithin q bounds seats →
     slice_index bounds.most place ≤ slice_index bounds.least place → IsFixedAt q bounds seats place
 fixed_by_bounds q bounds seats place lt within one = λ others also.
@@ -101,7 +101,7 @@ fixed_by_bounds q bounds seats place lt within one = λ others also.
 place_below : (m n d g : ℕ) → d < m → g < n → d * n + g < m * n
 place_below m n d g dm gn = let rows : (d + 1) * n ≤ m * n = mul-le-mul_right n (omega arith) in omega arith
 
--- place by place, row by row
+-- the ranges of all cells, from those of all places
 pub all_ranges : (q : Question) (least most : List ℕ) → length least ≡ q.rows * q.columns → length most ≡ q.rows * q.columns →
     ((place : ℕ) → place < q.rows * q.columns → HasRangeAt q place (slice_index least place) (slice_index most place)) →
     AreRanges q least most
@@ -112,7 +112,7 @@ all_ranges q least most one_least_each one_most_each each = record {
       rw (place-div d g q.columns gn, place-mod d g q.columns gn) at (each (d * q.columns + g) (place_below q.rows q.columns d g dm gn));
 }
 
--- after the range of one more place is taken
+-- the ranges after one more place
 pub one_more_range : (q : Question) (lowest highest : List ℕ) (place least most : ℕ) → place < length lowest → place < length highest →
     ((k : ℕ) → k < place → HasRangeAt q k (get_or lowest k 0) (get_or highest k 0)) → HasRangeAt q place least most →
     (k : ℕ) → k < place + 1 → HasRangeAt q k (get_or (set lowest place least) k 0) (get_or (set highest place most) k 0)
@@ -126,7 +126,7 @@ one_more_range q lowest highest place least most low high before here k lt =
           rw (same, get_or-set_same lowest place least 0 low, get_or-set_same highest place most 0 high) here
     ]
 
--- the bounds of a tie's divisors
+-- the bounds that the divisors of a tie give
 pub tie-within : (q : Question) (tie : Tie) (bounds : CellBounds) → bounds ≡ seat_bounds q (divisors_of tie.divisors) → IsLowerTie q tie →
     IsWithin q bounds tie.seats.items
 tie-within q tie bounds same is =

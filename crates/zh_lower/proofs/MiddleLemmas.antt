@@ -1,4 +1,4 @@
--- Divisors in the middle.
+-- The middle of divisors.
 use Rattle.std.proofs.Common.{◌≡◌, ℕ, ◌+◌, ◌/◌, ◌<◌, ◌≤◌, max, List, map, length, get_or, refl, sym, ap, ◌∙◌, arith, add-one}
 use Rattle.std.proofs.lemmas.List.{ext_get_or, get_or-map, length-map}
 use Rattle.std.proofs.Math.Nat.{div-le_self}
@@ -17,7 +17,7 @@ middled-next : (q : Question) (n : ℕ) (x : Divisors) → middled q (n + 1) x �
 unfolding middled
 middled-next q n x = rw add-one refl
 
--- one time more
+-- one more time
 pub middled-more : (q : Question) (n : ℕ) (begun : Divisors) (before columns new_rows new_columns : List ℕ) →
     columns ≡ (middled q n begun).of_columns →
     new_rows ≡ map (middle_row q (millionths before columns)) (range_with_len 0 q.rows) →
@@ -40,7 +40,7 @@ scaled_down-is scale of_columns xs long at =
     let there : g < length of_columns = omega arith in
     at g there ∙ sym (get_or-map (λ x. max 1 (x / scale)) of_columns g 0 0 there))
 
--- they stay within the limits
+-- columns that are scaled down stay within the limits
 pub scaled_down-within : (n top most scale : ℕ) (of_columns : List ℕ) → top ≤ most → AreWithin n top of_columns →
     AreWithin n most (scaled_down scale of_columns)
 scaled_down-within n top most scale of_columns less within =

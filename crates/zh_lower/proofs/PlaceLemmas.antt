@@ -20,7 +20,7 @@ use Rattle.zh_matrices.specs.SeatMatrix.{IsStrict}
 use Rattle.zh_lower.specs.declared.quotient.Quotient.{Quotient}
 use Rattle.zh_matrices.proofs.CallerLemmas.{column_of, place-div, place-mod, row_of}
 
--- what rounds to a number without a half is that number, rounded half up
+-- if n / p rounds to s without a half, s is n / p rounded half up
 half_up-rounds : (n p s : ℕ) → 0 < p → Rounds n p s → half_up n p ≡ s
 half_up-rounds n p s positive rounds = elim (cases_lt 0 s) [
   | inl some ↦
@@ -30,7 +30,7 @@ half_up-rounds n p s positive rounds = elim (cases_lt 0 s) [
   | inr none ↦ omega (arith, half_up-at_most n p s positive rounds.below_upper)
 ]
 
--- the seats of a strict matrix are the rounded ones
+-- seats that follow strictly are the rounded quotients
 strict_at : (q : Question) (x : Divisors) (seats : List ℕ) → IsProper q → x.scale ≡ 1000000 → IsStrict q x seats →
     (k : ℕ) → k < q.rows * q.columns → get_or seats k 0 ≡ rounded_at q x k
 strict_at q x seats proper scale strict k within =
@@ -59,7 +59,7 @@ strict_is q x seats proper scale strict =
 pub half_there : (q : Question) (x : Divisors) (d g : ℕ) → x.scale ≡ 1000000 → g < q.columns → HasHalf q x d g → IsTrue (is_half_at q x (d * q.columns + g))
 half_there q x d g scale lt half = rw (place-div d g q.columns lt, place-mod d g q.columns lt) (rw scale at half)
 
--- the quotient that is kept for a place
+-- the stored quotient of a place
 pub quotient-is : (q : Question) (x : Divisors) (xs : List Quotient) (k : ℕ) → xs ≡ quotients q x → k < q.rows * q.columns →
     get_or xs k no_quotient ≡ quotient_at q x k
 quotient-is q x xs k is within =
@@ -91,7 +91,7 @@ IsFirstHalfPlace-of q x xs k is found =
           cc;
     }
 
--- none is on a half
+-- no place is on a half
 position-None : {X : Type 0} (p : X → Bool) (xs : List X) (k : ℕ) (d : X) → position p xs ≡ None → k < length xs → p (get_or xs k d) ≡ false
 position-None p xs k d none lt =
     let all : length xs ≤ position_or_len p xs = grind (arith, common_steps) in
@@ -106,7 +106,7 @@ HasNoHalf-of q x xs is none k within here =
     let yes : is_half_at q x k ≡ true = here in
     cc
 
--- rows and columns from 1
+-- the row and the column of a place, both counted from 1
 pub IsFirstHalf-of : (q : Question) (x : Divisors) (k d g : ℕ) → x.scale ≡ 1000000 → IsFirstHalfPlace q x k →
     d ≡ k / q.columns + 1 → g ≡ k % q.columns + 1 → IsFirstHalf q x d g
 IsFirstHalf-of q x k d g scale first d_is g_is =
@@ -132,13 +132,13 @@ IsFirstHalf-of q x k d g scale first d_is g_is =
           (half_there q x (k / q.columns) f scale (omega arith) here);
     }
 
--- the rounded seats are few
+-- the rounded quotients are at most 400
 pub rounded-few : (q : Question) (x : Divisors) → All (λ s. s ≤ 400) (rounded q x)
 rounded-few q x = All-from_get_or (λ s. s ≤ 400) (rounded q x) 0 (λ k lt.
     let within : k < q.rows * q.columns = omega (arith, length-map-range_with_len (rounded_at q x) 0 (q.rows * q.columns)) in
     rw (get_or-map-range_with_len (rounded_at q x) 0 (q.rows * q.columns) k k 0 within (omega arith)) (min-le_left 400 _))
 
--- where the rounded seats do not follow strictly, none do
+-- if the rounded quotients do not follow strictly, no seats do
 pub HasNone-tested : (q : Question) (x : Divisors) (seats : List ℕ) (result : Bool) → IsProper q → x.scale ≡ 1000000 →
     seats ≡ rounded q x → (IsTrue result ↔ IsStrict q x seats) → result ≡ false → HasNone q x
 HasNone-tested q x seats result proper scale is tells fails = λ other strict.

@@ -1,4 +1,4 @@
--- The kept quotients of a state.
+-- The stored quotients of a state.
 use Rattle.std.proofs.Common.{◌≡◌, ℕ, zero, suc, ◌+◌, ◌*◌, ◌/◌, ◌%◌, ◌^◌, ◌<◌, ◌≤◌, Bool, not, ◌||◌, ◌==◌, List, All, length, get_or, refl, ap, ◌∙◌, arith, add-one}
 use Rattle.std.proofs.lemmas.List.Elements.{All-from_get_or}
 use Rattle.std.proofs.Math.Nat.{mul_comm, mul-pos, mul-le-mul_left, mul-le-mul_right}
@@ -25,7 +25,7 @@ holds_half-is zero votes others D f at = refl
 holds_half-is (suc n) votes others D f at =
     rw (holds_half-is n votes others D f (λ i lt. at i (omega arith)), at n (omega arith)) refl
 
--- a line is unsettled by its kept quotients
+-- a line is unsettled if its stored quotients are
 unsettled-is : (n : ℕ) (votes others : ℕ → ℕ) (total D : ℕ) (cells : ℕ → Quotient) →
     ((i : ℕ) → i < n → (cells i).rounded ≡ half_up (votes i * 10 ^ 12) (others i * D)) →
     ((i : ℕ) → i < n → (cells i).is_half ≡ is_half (votes i * 10 ^ 12) (others i * D)) →
@@ -35,7 +35,7 @@ unsettled-is n votes others total D cells rounded halves =
     (sum_to-ext n (λ i. (cells i).rounded) (λ i. half_up (votes i * 10 ^ 12) (others i * D)) rounded)
     ∙ ap (λ b. not (half_up_total n votes others D == total) || b) (holds_half-is n votes others D (λ i. (cells i).is_half) halves)
 
--- where a place and its product are those of a row and a column
+-- the stored quotient of a cell, by its place or by its row and column
 kept-is : (q : Question) (x : Divisors) (xs : List Quotient) (d g place : ℕ) → xs ≡ quotients q x → d < q.rows → g < q.columns →
     place ≡ d * q.columns + g → kept_at xs place ≡ quotient_at q x (d * q.columns + g)
 kept-is q x xs d g place is dw gw place_is =
@@ -68,7 +68,7 @@ column-unsettled q x xs g total is gw =
     (λ d dw. ap (λ quotient. quotient.rounded) (kept d dw) ∙ ap (λ p. half_up (cell q.columns q.votes d g * 10 ^ 12) p) (product d dw))
     (λ d dw. ap (λ quotient. quotient.is_half) (kept d dw) ∙ ap (λ p. is_half (cell q.columns q.votes d g * 10 ^ 12) p) (product d dw))
 
--- no quotient is above twice the most votes
+-- a rounded quotient is at most 10^27
 half_up-small : (v p : ℕ) → v ≤ 10 ^ 14 → 1 ≤ p → half_up (v * 10 ^ 12) p ≤ 10 ^ 27
 half_up-small v p few positive =
     let wide : (2 * (v * 10 ^ 12) + 1) * 1 ≤ (2 * (v * 10 ^ 12) + 1) * p = mul-le-mul_left (2 * (v * 10 ^ 12) + 1) positive in
@@ -87,7 +87,7 @@ quotients-small q of_rows of_columns xs sized limits is =
     rw (quotient-is q (millionths of_rows of_columns) xs k is within)
     (half_up-small (get_or q.votes k 0) _ (each_vote q sized k) (mul-pos row column)))
 
--- the kept quotients of a line lie within
+-- the places of a line are within the list of quotients
 pub row_within : (q : Question) (x : Divisors) (xs : List Quotient) (d : ℕ) → xs ≡ quotients q x → d < q.rows →
     (g : ℕ) → g < q.columns → d * q.columns + g * 1 < length xs
 row_within q x xs d is dw g gw =

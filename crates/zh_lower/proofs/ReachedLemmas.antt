@@ -1,4 +1,4 @@
--- The one matrix that the search comes to.
+-- The only matrix that the search reaches.
 use Rattle.std.proofs.Common.{◌≡◌, ap, ◌∙◌}
 use Rattle.zh_lower.specs.Outcomes.{IsReached}
 use Rattle.zh_matrices.specs.Question.{Question}
@@ -6,7 +6,7 @@ use Rattle.zh_matrices.specs.SeatMatrix.{IsStrict, SeatMatrix}
 use Rattle.zh_matrices.proofs.CallerLemmas.{only_seats, weakened}
 use Rattle.zh_lower.proofs.StateLemmas.{same-reached}
 
--- of all divisors that the search comes to, one pair alone gives seats, and these are the only ones
+-- of all divisors that the search reaches, only one set gives seats, and it gives only one matrix
 pub only_matrix : (q : Question) (one other : SeatMatrix) → IsReached q one.divisors → IsStrict q one.divisors one.seats →
     IsReached q other.divisors → IsStrict q other.divisors other.seats → other ≡ one
 only_matrix q one other one_reached S other_reached T =

@@ -1,4 +1,4 @@
--- Rounds of rising rows and falling columns come to one end.
+-- Rounds of rising rows and falling columns have only one result.
 use Rattle.std.proofs.Common.{◌≡◌, ℕ, zero, suc, ◌+◌, ◌<◌, ◌≤◌, List, length, get_or, set, inl, inr, refl, sym, ◌∙◌, arith, add-one}
 use Rattle.std.proofs.lemmas.Bool.{cases_eq}
 use Rattle.std.proofs.lemmas.List.{ext_get_or, get_or-set_other, get_or-set_same}
@@ -23,7 +23,7 @@ if-in Out claim there given = absurd (there refl)
 if-in Still claim there given = given
 if-in Moved claim there given = given
 
--- where a round moves nothing, no more rounds do
+-- if a round moves nothing, neither do more rounds
 pub so-many-more : (q : Question) (top : ℕ) (seats : List ℕ) (n m : ℕ) (x : Divisors) → ComeTo q top seats n x → IsRound q seats x x →
     ComeTo q top seats (n + m) x
 so-many-more q top seats n zero x come round = let e : n + 0 ≡ n = omega arith in rw e come
@@ -88,7 +88,7 @@ same-end q top seats zero x y one other = record {
 same-end q top seats (suc n) x y one other =
     same-round q seats one.0 other.0 x y (same-end q top seats n one.0 other.0 one.1 other.1) one.2 other.2
 
--- so many rounds come to these rows and columns alone
+-- n rounds reach only these rows and columns
 pub only-rows : (q : Question) (top : ℕ) (seats : List ℕ) (n : ℕ) (x y : Divisors) → ComeTo q top seats n x → ComeTo q top seats n y →
     length x.of_rows ≡ q.rows → length y.of_rows ≡ q.rows → y.of_rows ≡ x.of_rows
 only-rows q top seats n x y one other long also =
@@ -99,7 +99,7 @@ pub only-columns : (q : Question) (top : ℕ) (seats : List ℕ) (n : ℕ) (x y 
 only-columns q top seats n x y one other long also =
     ext_get_or 0 y.of_columns x.of_columns (also ∙ sym long) (λ g lt. (same-end q top seats n y x other one).columns g (omega arith))
 
--- one line after the other
+-- one line after another
 pub others-set : (i value : ℕ) (before xs : List ℕ) → ((k : ℕ) → i ≤ k → get_or xs k 0 ≡ get_or before k 0) →
     (k : ℕ) → i + 1 ≤ k → get_or (set xs i value) k 0 ≡ get_or before k 0
 others-set i value before xs same k more = get_or-set_other xs i k value 0 (omega arith) ∙ same k (omega arith)

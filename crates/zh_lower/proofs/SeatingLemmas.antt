@@ -1,4 +1,4 @@
--- What each end gives.
+-- What each outcome gives.
 use Rattle.std.proofs.Common.{◌≡◌, ℕ, ◌-◌, ◌<◌, ◌≤◌, List, Result, Ok, Err, IfOk, slice_index, refl, ap, inl, inr, arith}
 use Rattle.std.proofs.lemmas.Bool.{cases_lt}
 use Rattle.std.specs.Prelude.{IsErrOf}
@@ -35,7 +35,7 @@ tied-none q d g is =
     let ways = is.tied.ways in
     no_seats q is.divisors is.tied.seats is.tied.others ways.one_way ways.other_way ways.differ
 
--- no state has seats, nor the decision
+-- neither a state of the search nor the decision gives seats
 none_found : (q : Question) (reason : NoLower) → IsProper q → NoneFound q → fault_of reason ≡ faults.Exhausted → HasReason q reason →
     HandsOver q (Err reason)
 none_found q reason proper none name is = record {
@@ -57,7 +57,7 @@ exhausted q decided proper none leaves is =
       in_vain = inr (record { findings = found decided.findings; decision = decided.decision; decides = is.0; tried = is.1 });
     }) refl is
 
--- rows and columns are to get different numbers of seats
+-- the row totals and the column totals have different sums
 pub unbalanced : (q : Question) → IsProper q → ¬ AreBalanced q → HandsOver q (Err Unbalanced)
 unbalanced q proper fails =
     none_found q Unbalanced proper (record {
@@ -69,7 +69,7 @@ unbalanced q proper fails =
       in_vain = inl fails;
     }) refl fails
 
--- the search comes to a tie
+-- the search reaches a tie
 tied_there : (q : Question) (d g e f : ℕ) → ComesToTie q d g → ComesToTie q e f → faults.Tied d g ≡ faults.Tied e f
 tied_there q d g e f one other = let (row, column) = same-tie q d g e f one other in rw (row, column) refl
 
@@ -86,7 +86,7 @@ tied q tie is =
       reason = is;
     }
 
--- a row without votes is none in which a matrix has seats
+-- if a row has no votes, no matrix follows
 no_weak : (q : Question) (d : ℕ) (x : Divisors) (seats : List ℕ) → AreSeatTotals q.rows q.row_totals → IsFirstWithoutVotes q d → ¬ IsWeak q x seats
 no_weak q d x seats totals first weak =
     let dm : d - 1 < q.rows = omega (arith, first.from_1, first.there) in
@@ -122,7 +122,7 @@ without_votes q d totals first = record {
   reason = tt;
 }
 
--- the seats and divisors at hand
+-- the seats and divisors that were found
 pub seated : (q : Question) (lower : SeatMatrix) (seats of_rows of_columns : List ℕ) → IsProper q →
     lower ≡ record { seats = seats; divisors = millionths of_rows of_columns } → IsStrict q (millionths of_rows of_columns) seats →
     AreWithinLimits q of_rows of_columns → IsShown q (millionths of_rows of_columns) → HandsOver q (Ok lower)
@@ -136,7 +136,7 @@ seated q lower seats of_rows of_columns proper is strict limits shown = record {
   reason = tt;
 }
 
--- memory can be refused before a row is looked at
+-- memory can be refused before any row is looked at
 pub memory_refused : (q : Question) → LowerOutcome q (Err faults.Memory)
 memory_refused q = record { seats = tt; fault = tt; no_votes = λ d first. inr refl; tied = λ d g comes. inr refl }
 
@@ -146,7 +146,7 @@ pub only_answer : (q : Question) (result : Result SeatMatrix LowerFault) → Low
 only_answer q (Ok lower) found = λ x seats weak. only_seats q lower.divisors x lower.seats seats found.seats.strict weak
 only_answer q (Err fault) found = tt
 
--- nor any strictly where some are tied
+-- at a tie, no seats follow strictly
 pub no_answer : (q : Question) (result : Result SeatMatrix LowerFault) (d g : ℕ) → LowerOutcome q result → IsErrOf result (faults.Tied d g) →
     (x : Divisors) (seats : List ℕ) → ¬ IsStrict q x seats
 no_answer q result d g found is =

@@ -33,12 +33,12 @@ pub only_strict : (q : Question) (x : Divisors) (seats : List ℕ) → IsStrict 
     (y : Divisors) (others : List ℕ) → IsStrict q y others → others ≡ seats
 only_strict q x seats strict y others also = only_seats q x y seats others strict (weakened q y others also)
 
--- at a smaller scale
+-- the middle from columns that are scaled down
 pub IsMiddle-scaled : (q : Question) (scale : ℕ) (greatest seats columns : List ℕ) (x : Divisors) → x ≡ middle_from q columns →
     columns ≡ scaled_down scale greatest → IsStrict q x seats → IsMiddle q scale greatest x
 IsMiddle-scaled q scale greatest seats columns x is scaled strict = inl (is ∙ ap (λ cs. middle_from q cs) scaled, (seats, strict))
 
--- or from the greatest, where that gives none
+-- the middle from the greatest columns, if those scaled down give no seats
 pub IsMiddle-unscaled : (q : Question) (scale : ℕ) (greatest seats scaled columns : List ℕ) (x y : Divisors) (result : Bool) →
     ((z : Divisors) (others : List ℕ) → IsStrict q z others → others ≡ seats) →
     x ≡ middle_from q scaled → scaled ≡ scaled_down scale greatest → (IsTrue result ↔ IsStrict q x seats) → result ≡ false →
@@ -51,7 +51,7 @@ IsMiddle-unscaled q scale greatest seats scaled columns x y result only is scale
     cc in
     inr (also ∙ ap (λ cs. middle_from q cs) same, none)
 
--- nor do both, where neither gives the only seats
+-- if neither middle gives the only seats, there is no middle that does
 pub none-in-middle : (q : Question) (scale : ℕ) (greatest seats scaled columns : List ℕ) (x y : Divisors) (passes also_passes : Bool) →
     x ≡ middle_from q scaled → scaled ≡ scaled_down scale greatest → (IsTrue passes ↔ IsStrict q x seats) → passes ≡ false →
     y ≡ middle_from q columns → columns ≡ greatest → (IsTrue also_passes ↔ IsStrict q y seats) → also_passes ≡ false →
@@ -63,7 +63,7 @@ none-in-middle q scale greatest seats scaled columns x y passes also_passes is s
     let at : y ≡ z = also ∙ ap (λ cs. middle_from q cs) same ∙ sym middle.0 in
     false≢true (sym also_fails ∙ also_tells.1 (rw at strict))
 
--- the divisors to which the rounds come, with the middle from them
+-- the divisors that the rounds reach, and the middle from them
 pub within-of : (q : Question) (top : ℕ) (seats least greatest : List ℕ) (x : Divisors) → Enclose q top seats least greatest →
     AreWithin q.rows (10 ^ 18) least → AreWithin q.columns top greatest → ComeTo q top seats 1000 (millionths least greatest) →
     IsStrict q (millionths least greatest) seats → IsMiddle q (top / 1000000) greatest x → IsStrict q x seats → IsSecondWithin q top seats x
@@ -91,7 +91,7 @@ same-columns : (q : Question) (top : ℕ) (seats rows columns others other_colum
 same-columns q top seats rows columns others other_columns long wide rounds give also =
     only-columns q top seats 1000 (millionths others other_columns) (millionths rows columns) also rounds give.columns.one_each wide
 
--- nor where those to which the rounds come do not give the seats
+-- there is no middle if the divisors that the rounds reach do not give the seats
 pub none-strict : (q : Question) (top : ℕ) (seats rows columns : List ℕ) → length rows ≡ q.rows → length columns ≡ q.columns →
     ComeTo q top seats 1000 (millionths rows columns) → ¬ IsStrict q (millionths rows columns) seats →
     (x : Divisors) → ¬ IsSecondWithin q top seats x
@@ -101,7 +101,7 @@ none-strict q top seats rows columns long wide rounds fails x second =
       same-columns q top seats rows columns second.rows second.columns long wide rounds second.give second.rounds,
     ) second.give.strict)
 
--- nor where their middle does not
+-- there is none if no middle from them gives the seats
 pub none-middle : (q : Question) (top : ℕ) (seats rows columns : List ℕ) → length rows ≡ q.rows → length columns ≡ q.columns →
     ComeTo q top seats 1000 (millionths rows columns) →
     ((x : Divisors) → IsMiddle q (top / 1000000) columns x → ¬ IsStrict q x seats) →
@@ -110,7 +110,7 @@ none-middle q top seats rows columns long wide rounds none x second =
     none x (rw (same-columns q top seats rows columns second.rows second.columns long wide rounds second.give second.rounds) second.middle)
     second.strict
 
--- nor within either top where none are within each
+-- there is none if there is none for either top
 pub none-for : (q : Question) (seats : List ℕ) → ((y : Divisors) → ¬ IsSecondWithin q (10 ^ 9) seats y) →
     ((y : Divisors) → ¬ IsSecondWithin q (10 ^ 12) seats y) → HaveNoSecond q seats
 none-for q seats none also x (inl within) = none x within
@@ -120,7 +120,7 @@ pub second-strict : (q : Question) (seats : List ℕ) (x : Divisors) → IsSecon
 second-strict q seats x (inl within) = within.strict
 second-strict q seats x (inr (none, within)) = within.strict
 
--- where the only seats have none, there are none
+-- if the only seats have no middle, no seats have one
 pub none-second : (q : Question) (seats : List ℕ) (z : Divisors) → IsStrict q z seats → HaveNoSecond q seats → (x : Divisors) → ¬ IsSecond q x
 none-second q seats z strict none x (others, second) =
     let same : others ≡ seats = only_strict q z seats strict x others (second-strict q others x second) in none x (rw (← same) second)

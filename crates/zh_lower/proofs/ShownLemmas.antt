@@ -1,4 +1,4 @@
--- Of the divisors that are shown, one pair alone gives seats.
+-- Of the divisors that are shown, only one set gives seats.
 use Rattle.std.proofs.Common.{◌≡◌, ℕ, ◌/◌, ◌^◌, List, inl, inr, sym, ap, subst, ◌∙◌, arith}
 use Rattle.zh_matrices.specs.Divisors.{Divisors, millionths}
 use Rattle.zh_lower.specs.Outcomes.{IsReached, NoneBefore}
@@ -24,7 +24,7 @@ same_within q top seats others x y one other =
     let columns : other.columns ≡ one.columns = same_greatest q top one.columns other.columns one.greatest other.greatest in
     same_middle q (top / 1000000) one.columns x y one.middle (rw columns at other.middle)
 
--- for the same seats it is not both within a top and not
+-- the same seats cannot have a middle within a top and have none
 not_both : (q : Question) (top most : ℕ) (seats others : List ℕ) (x y : Divisors) → IsSecondWithin q top seats x →
     ((z : Divisors) → ¬ IsSecondWithin q top others z) → IsSecondWithin q most others y → ⊥
 not_both q top most seats others x y one none other =

@@ -8,11 +8,11 @@ use Rattle.zh_matrices.specs.Question.{Question}
 use Rattle.zh_matrices.specs.SeatMatrix.{IsStrict}
 use Rattle.zh_lower.specs.States.{start, state, with_columns_renewed, with_rows_renewed}
 
--- after an even number of half-steps come the columns
+-- after an even number of half-steps, the columns are next
 state-columns : (q : Question) (n : ℕ) → state q (2 * n + 1) ≡ with_columns_renewed q (state q (2 * n))
 state-columns q n = rw (add-one (2 * n), mul-mod_right 2 n) refl
 
--- and then the rows
+-- after an odd number of half-steps, the rows are next
 state-rows : (q : Question) (n : ℕ) → state q (2 * n + 1 + 1) ≡ with_rows_renewed q (state q (2 * n + 1))
 state-rows q n = rw (add-one (2 * n + 1), mul-add-mod_self_left 2 n 1) refl
 
@@ -22,7 +22,7 @@ NoneBefore-more q n before here k lt = elim (cases_eq k n) [
   | inr other ↦ before k (omega arith)
 ]
 
--- a round leads from one state to the state after the next
+-- a round leads from one state to the second one after it
 pub round-state : (q : Question) (n : ℕ) (x y : Divisors) → x ≡ state q (2 * n) → RoundGoesOn q x y → y ≡ state q (2 * (n + 1))
 round-state q n x y at goes =
     let here : y ≡ state q (2 * n + 1 + 1)
@@ -55,7 +55,7 @@ goes_on q x y z None columns rows between after = record {
   none_after = after;
 }
 
--- the search comes to its start
+-- the search reaches its start
 pub start-reached : (q : Question) (x : Divisors) → x ≡ start q → IsReached q x
 start-reached q x is = record {
   half_steps = 0;
@@ -64,7 +64,7 @@ start-reached q x is = record {
   none_before = λ k lt. absurd (omega (arith, lt));
 }
 
--- and to the divisors at which a round ends, where the rounds before did not
+-- the search reaches the divisors at which a round ends, if the rounds before did not end
 pub round-reached : (q : Question) (n : ℕ) (x y : Divisors) → n < 1000 → x ≡ state q (2 * n) → NoneBefore q (2 * n + 1) →
     EndsRound q x y → IsReached q y
 round-reached q n x y few at before (inl columns) = record {
@@ -83,7 +83,7 @@ round-reached q n x y few at before (inr (rows, none)) =
       none_before = NoneBefore-more q (2 * n + 1) before (rw between none);
     }
 
--- of the divisors that it comes to, it ends at one pair alone
+-- the search ends at only one set of divisors
 pub same-end : (q : Question) (x y : Divisors) → IsReached q x → ¬ IsNoEnd q x → IsReached q y → ¬ IsNoEnd q y → y ≡ x
 same-end q x y X x_ends Y y_ends = elim (cases_lt X.half_steps Y.half_steps) [
   | inl lt ↦ absurd (x_ends (rw X.divisors (Y.none_before X.half_steps lt)))

@@ -7,11 +7,11 @@ use Rattle.zh_matrices.specs.Question.{Question}
 use Rattle.zh_lower.specs.States.{is_half}
 use Rattle.zh_lower.specs.declared.quotient.Quotient.{Quotient}
 
--- the product of the two divisors of a place
+-- the product of the two divisors of the cell in a place
 abbrev pub product_at : Question → Divisors → ℕ → ℕ
 product_at q x place = slice_index x.of_rows (place / q.columns) * slice_index x.of_columns (place % q.columns)
 
--- its quotient rounded half up, and 400 where it is more
+-- the quotient of the cell in a place, rounded half up and capped at 400
 abbrev pub rounded_at : Question → Divisors → ℕ → ℕ
 rounded_at q x place = min 400 (half_up (slice_index q.votes place * 10 ^ 12) (product_at q x place))
 
@@ -22,14 +22,14 @@ is_half_at q x place = is_half (slice_index q.votes place * 10 ^ 12) (product_at
 abbrev pub HasNoHalf : Question → Divisors → Type 0
 HasNoHalf q x = (place : ℕ) → place < q.rows * q.columns → ¬ IsTrue (is_half_at q x place)
 
--- its quotient, rounded half up, and whether it lies on a half
+-- the quotient of the cell in a place, rounded half up, and whether it lies on a half
 abbrev pub quotient_at : Question → Divisors → ℕ → Quotient
 quotient_at q x place = record {
   rounded = half_up (slice_index q.votes place * 10 ^ 12) (product_at q x place);
   is_half = is_half_at q x place;
 }
 
--- in place of one that is not there
+-- the default for a place outside the list
 abbrev pub no_quotient : Quotient
 no_quotient = record { rounded = 0; is_half = false }
 

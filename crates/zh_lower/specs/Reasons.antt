@@ -1,4 +1,4 @@
--- Why there are no seats, with all that was found of it.
+-- Why there are no seats, with everything that was found out about it.
 use Rattle.std.specs.Prelude.{Result, Ok, Err, IfErr}
 use Rattle.zh_matrices.specs.Question.{Question}
 use Rattle.zh_matrices.specs.SeatMatrix.{SeatMatrix}
@@ -13,7 +13,7 @@ use Rattle.zh_lower.specs.declared.lower.LowerFault.TheVariants as faults
 use Rattle.zh_lower.specs.declared.lower.NoLower.{NoLower}
 use Rattle.zh_lower.specs.declared.lower.NoLower.TheVariants.{Exhausted, Memory, NoVotes, Tied, Unbalanced}
 
--- the name of a reason, without what was found
+-- the fault that names a reason, without what was found out
 abbrev pub fault_of : NoLower → LowerFault
 fault_of Memory = faults.Memory
 fault_of (NoVotes d) = faults.NoVotes d
@@ -25,7 +25,7 @@ abbrev pub lower_or_fault : Result SeatMatrix NoLower → Result SeatMatrix Lowe
 lower_or_fault (Ok lower) = Ok lower
 lower_or_fault (Err reason) = Err (fault_of reason)
 
--- it is one: a tie to which the search comes, or what was decided and tried in vain
+-- the reason holds: different sums of totals, a tie that the search reaches, or a decision whose matrices were tried in vain
 abbrev pub HasReason : Question → NoLower → Type 0
 HasReason q Unbalanced = ¬ AreBalanced q
 HasReason q (Tied tie) = IsLowerTie q tie
@@ -33,7 +33,7 @@ HasReason q (Exhausted decided) =
     Decides q (found decided.findings) decided.decision × AreTried q (found decided.findings) decided.decision
 HasReason q reason = Unit {0}
 
--- an answer as `find` gives it, with the reason where there are no seats
+-- an answer as `find` gives it, and a reason that holds if there are no seats
 pub record HandsOver (q : Question) (result : Result SeatMatrix NoLower) : Type 0 where
   pub outcome : LowerOutcome q (lower_or_fault result)
   pub reason : IfErr result (HasReason q)

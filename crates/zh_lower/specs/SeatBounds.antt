@@ -1,4 +1,4 @@
--- The fewest and the most seats that the quotients under divisors leave to each cell, a half rounded either way.
+-- The fewest and the most seats that divisors allow each cell, with halves rounded either way.
 use Rattle.std.specs.Prelude.{ℕ, ◌*◌, ◌^◌, min, List, map, slice_index}
 use Rattle.std.specs.List.{range_with_len}
 use Rattle.zh_divisors.specs.Line.{half_down, half_up}
@@ -7,11 +7,11 @@ use Rattle.zh_matrices.specs.Question.{Question}
 use Rattle.zh_decided.specs.Bounds.{CellBounds}
 use Rattle.zh_lower.specs.Places.{product_at}
 
--- its quotient rounded half down, and 401 where it is more: no row gets as many
+-- the quotient of a cell rounded half down, capped at 401: no row gets that many
 abbrev pub least_at : Question → Divisors → ℕ → ℕ
 least_at q x place = min 401 (half_down (slice_index q.votes place * 10 ^ 12) (product_at q x place))
 
--- the same, half up
+-- the same, rounded half up
 abbrev pub most_at : Question → Divisors → ℕ → ℕ
 most_at q x place = min 401 (half_up (slice_index q.votes place * 10 ^ 12) (product_at q x place))
 

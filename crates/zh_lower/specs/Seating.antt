@@ -17,21 +17,22 @@ pub record IsSeating (q : Question) (lower : SeatMatrix) : Type 0 where
   pub limits : AreWithinLimits q lower.divisors.of_rows lower.divisors.of_columns
   pub shown : IsShown q lower.divisors
 
--- no state of the search has seats, no divisors in millionths are those of the decision, and what is decided was tried
+-- no state of the search gives seats or is tied, the decision gives no divisors in millionths, and its matrices were tried in
+-- vain
 pub record NoneFound (q : Question) : Type 0 where
   pub none_before : NoneBefore q 2001
   pub none_given : NoneGiven q
   pub in_vain : IsInVain q
 
--- what is so where a fault is returned; memory can be refused at any time
+-- what holds if a fault is returned; memory can be refused at any time
 abbrev pub HasFault : Question → LowerFault → Type 0
 HasFault q Memory = Unit {0}
 HasFault q (NoVotes d) = IsFirstWithoutVotes q d
 HasFault q (Tied d g) = ComesToTie q d g
 HasFault q Exhausted = NoneFound q
 
--- seats, or a fault that there is; a row without votes, and a tie to which the search comes, are always reported where memory is
--- not refused
+-- the seats are right, or the fault holds; a row without votes, and a tie that the search reaches, are always reported unless
+-- memory is refused
 pub record LowerOutcome (q : Question) (result : Result SeatMatrix LowerFault) : Type 0 where
   pub seats : IfOk result (IsSeating q)
   pub fault : IfErr result (HasFault q)

@@ -5,11 +5,11 @@ use Rattle.zh_divisors.specs.Line.{half_up_total, line_divisor}
 use Rattle.zh_matrices.specs.Divisors.{Divisors, millionths}
 use Rattle.zh_matrices.specs.Question.{Question, row_votes, column_votes}
 
--- n / p lies exactly on a half: with a half more it is a whole number
+-- n / p lies exactly on a half: n / p + 1/2 is a whole number
 abbrev pub is_half : ℕ → ℕ → Bool
 is_half n p = (2 * n + p) % (2 * p) == 0
 
--- some quotient of a line lies on a half, among those of its first n cells under the divisor D
+-- one of the first n quotients of a line, with the divisor D, lies on a half
 abbrev pub holds_half : ℕ → (ℕ → ℕ) → (ℕ → ℕ) → ℕ → Bool
 holds_half zero votes others D = false
 holds_half (suc n) votes others D = holds_half n votes others D || is_half (votes n * 10 ^ 12) (others n * D)
@@ -45,7 +45,7 @@ with_rows_renewed q x = millionths (map (renewed_row q x) (range_with_len 0 q.ro
 abbrev pub with_columns_renewed : Question → Divisors → Divisors
 with_columns_renewed q x = millionths x.of_rows (map (renewed_column q x) (range_with_len 0 q.columns))
 
--- all columns stand at 1
+-- all columns at 1
 abbrev pub started_columns : Question → List ℕ
 started_columns q = map (λ g. 1000000) (range_with_len 0 q.columns)
 
@@ -53,7 +53,7 @@ abbrev pub started_row : Question → ℕ → ℕ
 started_row q d =
     line_divisor q.columns (row_votes q d) (slice_index (started_columns q)) (slice_index q.row_totals d) (10 ^ 18)
 
--- and each row gets its divisor
+-- the start: all columns at 1, and each row with the divisor of its rule
 abbrev pub start : Question → Divisors
 start q = millionths (map (started_row q) (range_with_len 0 q.rows)) (started_columns q)
 

@@ -1,5 +1,5 @@
-//! Biproportional apportionment by discrete alternating scaling: a start, and rounds of two half-steps, one of the columns and one
-//! of the rows. docs/DEFINITIONS.md calls it the search.
+//! Biproportional apportionment by discrete alternating scaling: a start, and then rounds of two half-steps, first of the
+//! columns and then of the rows. docs/DEFINITIONS.md calls it the search.
 ghost use Rattle.std.specs.Prelude.{◌≡◌, IfNone, IfSome};
 ghost use Rattle.zh_lower.specs.Outcomes.{IsEnding, EndsRound, RoundGoesOn, IsProper, IsReached, NoneBefore};
 ghost use Rattle.zh_lower.specs.Places.{quotients as quotients_of};
@@ -26,7 +26,7 @@ impl SearchState {
     ghost use Rattle.zh_matrices.specs.Asked.{asked};
     ghost use Rattle.zh_lower.specs.SearchRooms.{IsBeforeStart};
 
-    /// Before the start: every column stands at 1, and the rows have no divisors.
+    /// The state before the start: every column has the divisor 1, and the rows have none yet. Fails if memory is refused.
     pub fn new(alloc: Global, question: &Question<'_>) -> Result<SearchState, AllocError>
         ensures { IfOk result (IsBeforeStart (asked question.now)) }
     {
@@ -37,14 +37,14 @@ impl SearchState {
     }
 }
 
-/// What a search works in: the quotients of the cells, two matrices of seats, and the bounds of each cell.
+/// The working memory of a search: the quotients of the cells, two matrices of seats, and the bounds of each cell.
 #[derive(Drop)]
 pub struct SearchRoom {
     pub(crate) quotients: Vec<Quotient>,
     pub seats: Vec<u32>,
-    /// The seats that the same divisors give where halves are rounded otherwise.
+    /// The other matrix of a tie: the same divisors give it if halves are rounded differently.
     pub others: Vec<u32>,
-    /// The fewest and the most seats that the divisors leave to each cell.
+    /// The fewest and the most seats that the divisors allow each cell.
     pub(crate) least: Vec<u32>,
     pub(crate) most: Vec<u32>,
 }
@@ -54,7 +54,7 @@ impl SearchRoom {
     ghost use Rattle.zh_matrices.specs.Asked.{asked};
     ghost use Rattle.zh_lower.specs.SearchRooms.{IsSearchRoom};
 
-    /// Room for the cells of a question.
+    /// Room for the cells of a question. Fails if memory is refused.
     pub fn new(alloc: Global, question: &Question<'_>) -> Result<SearchRoom, AllocError>
         ensures { IfOk result (IsSearchRoom (asked question.now)) }
     {
@@ -71,7 +71,7 @@ impl SearchRoom {
 
 const ROUNDS: u32 = 1000;
 
-/// A half-step of the columns. The room has the quotients of the state before.
+/// A half-step of the columns. `room` must contain the quotients of the state before it.
 fn step_columns(question: &Question<'_>, state: &mut SearchState, room: &SearchRoom)
     requires proper { IsProper (asked question.now) }
     requires limits { AreWithinLimits (asked question.now) state.old.of_rows.items state.old.of_columns.items }
@@ -87,7 +87,7 @@ fn step_columns(question: &Question<'_>, state: &mut SearchState, room: &SearchR
     );
 }
 
-/// A half-step of the rows.
+/// A half-step of the rows. `room` must contain the quotients of the state before it.
 fn step_rows(question: &Question<'_>, state: &mut SearchState, room: &SearchRoom)
     requires proper { IsProper (asked question.now) }
     requires limits { AreWithinLimits (asked question.now) state.old.of_rows.items state.old.of_columns.items }
@@ -103,7 +103,7 @@ fn step_rows(question: &Question<'_>, state: &mut SearchState, room: &SearchRoom
     );
 }
 
-/// The start: each row gets its divisor.
+/// The start: each row gets its divisor by the rule of a line.
 fn start_rows(question: &Question<'_>, state: &mut SearchState)
     requires proper { IsProper (asked question.now) }
     requires unstarted { IsBeforeStart (asked question.now) state.old }
@@ -113,8 +113,8 @@ fn start_rows(question: &Question<'_>, state: &mut SearchState)
     middle_rows(question, &state.of_columns, &mut state.of_rows);
 }
 
-/// A column half-step, the end test, a row half-step, the end test. The quotients are those of the state before, and
-/// then of that after.
+/// A half-step of the columns, the end test, a half-step of the rows, and the end test again. `room` contains the quotients of
+/// the state before the round, and afterwards those of the last state.
 fn round(question: &Question<'_>, state: &mut SearchState, room: &mut SearchRoom) -> Option<Ending>
     requires proper { IsProper (asked question.now) }
     requires limits { AreWithinLimits (asked question.now) state.old.of_rows.items state.old.of_columns.items }
@@ -160,8 +160,8 @@ fn rounds(question: &Question<'_>, state: &mut SearchState, room: &mut SearchRoo
     None
 }
 
-/// The search, from columns that all stand at 1. None where it ends without seats or a tie. The room has the seats that
-/// are found, or two matrices of a tie.
+/// The search. It starts with all columns at 1. None if no state of it gives seats or is tied. Otherwise `room` contains the
+/// seats that were found, or both matrices of the tie.
 pub fn search(
     question: &Question<'_>,
     state: &mut SearchState,

@@ -1,5 +1,4 @@
-//! Where seats are found: the lower apportionment as a whole, which is a biproportional one, by the search, and where that has
-//! none by the decision.
+//! The lower apportionment as a whole (biproportional): seats by the search or, if it finds none, by the decision.
 ghost use Rattle.std.specs.Prelude.{◌≡◌, ℕ, ◌*◌, IfOk, IsErrOf, List, length, ◌<◌, ◌↔◌, IfNone, IfSome, IsTrue};
 ghost use Rattle.zh_decided.specs.Ways.{AreBalanced};
 ghost use Rattle.zh_lower.specs.Outcomes.{IsProper, NoneBefore};
@@ -23,8 +22,8 @@ use std::alloc::{AllocError, Global};
 use zh_decided::{DecisionRoom, are_balanced, decide};
 use zh_matrices::{Matrix, Question};
 
-/// A state of the search, with what a search, the decision and the divisors after it work on. The memory of all is taken
-/// before the first begins.
+/// A state of the search, and the room for the search, for the decision and for the divisors. All memory is allocated before
+/// the search begins.
 #[derive(Drop)]
 pub(crate) struct Tables {
     pub state: SearchState,
@@ -38,7 +37,7 @@ impl Tables {
     ghost use Rattle.zh_matrices.specs.Asked.{asked};
     ghost use Rattle.zh_lower.specs.Tables.{AreStarted};
 
-    /// The tables of a search that has not begun.
+    /// The tables of a search that has not begun. Fails if memory is refused.
     pub fn new(alloc: Global, question: &Question<'_>) -> Result<Tables, AllocError>
         ensures { IfOk result (AreStarted (asked question.now)) }
     {
@@ -60,7 +59,7 @@ fn found_on(tables: Tables) -> Lower
     Lower::new(room.seats, state.of_rows, state.of_columns)
 }
 
-/// The tie to which the search came.
+/// The tie that the search reached.
 fn tie_on(tables: Tables, row: u32, column: u32) -> Tie
     ensures { result ≡ record { row = row; column = column; divisors = tables.state; seats = tables.room.seats } }
 {
@@ -73,7 +72,7 @@ fn tie_on(tables: Tables, row: u32, column: u32) -> Tie
     }
 }
 
-/// Seats with divisors by the decision, where the search has none.
+/// Seats with divisors by the decision, after a search that found none.
 fn decided_seats_on(tables: Tables, question: &Question<'_>) -> Result<Lower, NoLower>
     requires proper { IsProper (asked question.now) }
     requires balanced { AreBalanced (asked question.now) }
@@ -113,8 +112,8 @@ fn seats_on(mut tables: Tables, question: &Question<'_>) -> Result<Lower, NoLowe
     }
 }
 
-/// The seats of each group in each constituency, as `find` gives them, or the reason why there are none: a tie with what `lot`
-/// asks for, and an end of the search with what was decided then. All memory is taken before the search begins.
+/// The seats of each group in each constituency, as `find` gives them, or why there are none: a tie with what `lot` needs, or
+/// an exhausted search with the decision that followed it. All memory is allocated before the search begins.
 pub fn find_or_reason(
     alloc: Global,
     matrix: &Matrix,
@@ -126,7 +125,7 @@ pub fn find_or_reason(
     requires votes { EachColumnHasVotes (question matrix.now row_totals.now column_totals.now) }
     ensures outcome { HandsOver (question matrix.now row_totals.now column_totals.now) result }
 
-    // A row without votes is reported even where memory is refused.
+    // A row without votes is reported even if memory is refused.
     ensures no_votes { (d : ℕ) → IsFirstWithoutVotes (question matrix.now row_totals.now column_totals.now) d →
         IsErrOf result (NoLower.NoVotes d) }
 {
@@ -142,11 +141,14 @@ pub fn find_or_reason(
 
 /// The seats of each group in each constituency (GPR section 104), with divisors that give them.
 ///
-/// The votes of each cell over its two divisors round to its seats, none on a half, and all totals are met.
-/// No other seats follow from any divisors, of any scale, and the divisors are those of the first state of the
-/// search (docs/DEFINITIONS.md) that gives seats; where none does, they lie in the middle of those that give them.
-/// `Tied` is returned if a state gives two different matrices, `Exhausted` if no state gives seats and the decision leaves
-/// none either, and `Memory` can come in place of every answer but `NoVotes`.
+/// The votes of each cell, divided by its two divisors, round to its seats, with no quotient on a half, and all totals are met.
+/// No divisors of any scale give other seats. The divisors are those of the first state of the search (docs/DEFINITIONS.md)
+/// that gives seats. If none does, they are the middle of those that give the seats, or else those of the decision, made easier
+/// to read if possible.
+///
+/// `Tied` is returned if the search reaches a state from which two different matrices follow. `Exhausted` is returned if no
+/// state gives seats or is tied, and the decision does not give seats either; or if the row totals and the column totals have
+/// different sums. `Memory` can be returned in place of every answer but `NoVotes`.
 pub fn find(
     alloc: Global,
     matrix: &Matrix,
@@ -158,11 +160,11 @@ pub fn find(
     requires votes { EachColumnHasVotes (question matrix.now row_totals.now column_totals.now) }
     ensures outcome { LowerOutcome (question matrix.now row_totals.now column_totals.now) result }
 
-    // A row without votes is reported even where memory is refused.
+    // A row without votes is reported even if memory is refused.
     ensures no_votes { (d : ℕ) → IsFirstWithoutVotes (question matrix.now row_totals.now column_totals.now) d →
         IsErrOf result (LowerFault.NoVotes d) }
 
-    // No other seats follow from any divisors, and none strictly where these are tied.
+    // No other seats follow from any divisors. At a tie, no seats follow strictly.
     ensures one_answer { IfOk result (λ lower. (divisors : Divisors) (seats : List ℕ) →
         IsWeak (question matrix.now row_totals.now column_totals.now) divisors seats → seats ≡ lower.seats) }
     ensures no_answer { (d g : ℕ) → IsErrOf result (LowerFault.Tied d g) → (divisors : Divisors) (seats : List ℕ) →

@@ -1,4 +1,4 @@
-//! Divisors for seats that are found elsewhere: in the middle of those that give them.
+//! Divisors for seats that are found elsewhere: the middle of those that give them.
 ghost use Rattle.std.specs.Bool.{OnFalse, OnTrue};
 ghost use Rattle.std.specs.Prelude.{◌≡◌, ℕ, ◌*◌, ◌/◌, ◌^◌, ◌≤◌, ◌↔◌, IsTrue, List, length};
 ghost use Rattle.zh_lower.specs.Outcomes.{IsProper};
@@ -13,12 +13,12 @@ use crate::half_step::{middle_columns, middle_rows};
 use std::alloc::{AllocError, Global};
 use zh_matrices::{Proposal, Question, Rounding, follows};
 
-/// Divisors in millionths, and what a search for them works on.
+/// Divisors in millionths, and the room for finding them.
 #[derive(Drop)]
 pub(crate) struct DivisorRoom {
     pub of_rows: Vec<u64>,
     pub of_columns: Vec<u64>,
-    /// The greatest columns that give some seats.
+    /// The greatest column divisors that give some seats.
     pub greatest: Vec<u64>,
 }
 
@@ -27,7 +27,7 @@ impl DivisorRoom {
     ghost use Rattle.zh_matrices.specs.Asked.{asked};
     ghost use Rattle.zh_lower.specs.Rooms.{IsDivisorRoom};
 
-    /// Room for the divisors of a question.
+    /// Room for the divisors of a question. Fails if memory is refused.
     pub fn new(alloc: Global, question: &Question<'_>) -> Result<DivisorRoom, AllocError>
         ensures { IfOk result (IsDivisorRoom (asked question.now)) }
     {
@@ -43,7 +43,7 @@ const NARROW: u64 = 1_000_000_000;
 
 const WIDE: u64 = 1_000_000_000_000;
 
-/// Whether the middle from these columns gives the seats.
+/// Whether the middle from the column divisors in `room` gives the seats. The middle is left there.
 fn middle_gives(proposal: &Proposal<'_>, room: &mut DivisorRoom) -> bool
     requires proper { IsProper (asked proposal.now.question.now) }
     requires room { IsDivisorRoom (asked proposal.now.question.now) room.old }
@@ -58,7 +58,8 @@ fn middle_gives(proposal: &Proposal<'_>, room: &mut DivisorRoom) -> bool
     follows(Rounding::Strict, proposal, &room.of_rows, &room.of_columns)
 }
 
-/// Whether the middle from the greatest columns gives the only seats: at a smaller scale, or else from themselves.
+/// Whether the middle from the greatest column divisors gives the seats, which are the only ones: scaled down or, if that
+/// fails, as they are. The middle is left in `room`.
 pub(crate) fn gives_from(proposal: &Proposal<'_>, scale: u64, room: &mut DivisorRoom) -> bool
     requires proper { IsProper (asked proposal.now.question.now) }
     requires room { IsDivisorRoom (asked proposal.now.question.now) room.old }
@@ -81,7 +82,7 @@ pub(crate) fn gives_from(proposal: &Proposal<'_>, scale: u64, room: &mut Divisor
     middle_gives(proposal, room)
 }
 
-/// Whether there are divisors that give these seats, with columns within a top.
+/// Whether the seats have a middle with column divisors up to `top` (`IsSecondWithin`), which is left in `room`.
 fn find_within(proposal: &Proposal<'_>, top: u64, room: &mut DivisorRoom) -> bool
     requires proper { IsProper (asked proposal.now.question.now) }
     requires room { IsDivisorRoom (asked proposal.now.question.now) room.old }
@@ -104,7 +105,7 @@ fn find_within(proposal: &Proposal<'_>, top: u64, room: &mut DivisorRoom) -> boo
     gives_from(proposal, top / 1_000_000, room)
 }
 
-/// Whether there are divisors that give these seats, with columns within 1000, or else within 1000000.
+/// Whether the seats have a middle with column divisors up to 1,000 or, if not, up to 1,000,000. It is left in `room`.
 pub(crate) fn find_divisors(proposal: &Proposal<'_>, room: &mut DivisorRoom) -> bool
     requires proper { IsProper (asked proposal.now.question.now) }
     requires room { IsDivisorRoom (asked proposal.now.question.now) room.old }
@@ -119,7 +120,7 @@ pub(crate) fn find_divisors(proposal: &Proposal<'_>, room: &mut DivisorRoom) -> 
 
 const TIMES: u32 = 16;
 
-/// Takes each row, and then each column, to the middle of its range, 16 times.
+/// Sets each row divisor, and then each column divisor, to the middle of its range, 16 times.
 pub(crate) fn middle(question: &Question<'_>, of_rows: &mut [u64], of_columns: &mut [u64])
     requires proper { IsProper (asked question.now) }
     requires rows { length of_rows.old ≡ question.now.rows }
@@ -133,7 +134,7 @@ pub(crate) fn middle(question: &Question<'_>, of_rows: &mut [u64], of_columns: &
     }
 }
 
-/// Columns at a smaller scale, none below 1.
+/// Writes the column divisors over `scale`, rounded down but not below 1 millionth, to `into`.
 pub(crate) fn scale_down(of_columns: &[u64], scale: u64, into: &mut [u64])
     requires scale { 1 ≤ scale }
     requires room { length into.old ≡ length of_columns.now }

@@ -1,4 +1,4 @@
-//! The end test of the alternating scaling: whether a state has seats, or a tie.
+//! The end test of the alternating scaling: whether a state gives seats or is tied.
 ghost use Rattle.std.specs.Bool.{OnFalse, OnTrue};
 ghost use Rattle.std.specs.Prelude.{◌≡◌, ◌≤◌, ◌↔◌, All, IfNone, IfSome, IsTrue, ◌≢◌, ℕ, ◌*◌, List, length};
 ghost use Rattle.zh_decided.specs.Bounds.{IsWithin, asked_in, bounds_of};
@@ -18,14 +18,14 @@ use zh_matrices::{Proposal, Question, Rounding, follows};
 /// How a search ends.
 #[derive(Clone, Copy)]
 pub enum Ending {
-    /// The seats at hand follow strictly from the divisors at hand.
+    /// The seats in the room follow strictly from the divisors of the state.
     Found,
-    /// Two different matrices follow from the divisors at hand, whose first quotient on a half is in this row
-    /// and this column, both counted from 1.
+    /// Two different matrices follow from the divisors of the state. The first quotient on a half is in this row and this
+    /// column, both counted from 1.
     Tied(u32, u32),
 }
 
-/// Whether the seats of the room follow strictly.
+/// Whether the seats in the room follow strictly from the divisors of a state.
 fn are_strict(question: &Question<'_>, state: &SearchState, room: &SearchRoom) -> bool
     requires limits { AreWithinLimits (asked question.now) state.now.of_rows.items state.now.of_columns.items }
     requires room { IsSearchRoom (asked question.now) room.now }
@@ -44,7 +44,8 @@ fn are_strict(question: &Question<'_>, state: &SearchState, room: &SearchRoom) -
     )
 }
 
-/// The end test at a state of the search. Its quotients stay in the room, and the seats that are found; or both matrices of a tie.
+/// The end test at a state of the search. It leaves in the room the quotients of the state, and the seats that were found or
+/// both matrices of a tie. None if the state neither gives seats nor is tied.
 pub(crate) fn end_test(
     question: &Question<'_>,
     state: &SearchState,
@@ -71,7 +72,7 @@ pub(crate) fn end_test(
     None
 }
 
-/// Leaves another matrix within the bounds in `others`; false where there is none.
+/// Writes a different matrix within the bounds to `others`. False if there is none.
 fn find_other(bounds: &CellBounds<'_>, seats: &[u32], others: &mut [u32]) -> bool
     requires within { IsWithin (asked_in bounds.now) (bounds_of bounds.now) seats.now }
     requires others { length others.old ≡ bounds.now.question.now.rows * bounds.now.question.now.columns }
@@ -87,7 +88,7 @@ fn find_other(bounds: &CellBounds<'_>, seats: &[u32], others: &mut [u32]) -> boo
     false
 }
 
-/// Leaves two different matrices within the bounds in `seats` and `others`; false where there are none.
+/// Writes two different matrices within the bounds to `seats` and `others`. False if there are none.
 fn find_both(bounds: &CellBounds<'_>, seats: &mut [u32], others: &mut [u32]) -> bool
     requires seats { length seats.old ≡ bounds.now.question.now.rows * bounds.now.question.now.columns }
     requires others { length others.old ≡ bounds.now.question.now.rows * bounds.now.question.now.columns }
@@ -103,7 +104,7 @@ fn find_both(bounds: &CellBounds<'_>, seats: &mut [u32], others: &mut [u32]) -> 
     find_other(bounds, seats, others)
 }
 
-/// Leaves two different matrices that follow from the divisors of a state in the room; false where there are none.
+/// Leaves in the room two different matrices that follow from the divisors of a state. False if there are none.
 pub(crate) fn find_two_ways(
     question: &Question<'_>,
     state: &SearchState,

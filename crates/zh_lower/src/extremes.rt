@@ -1,7 +1,8 @@
-//! The least rows and the greatest columns among the divisors that give some seats, in rounds over all cells, as Bellman-Ford has them.
+//! The least row divisors and the greatest column divisors that give some seats, found in rounds over all cells as in
+//! Bellman-Ford.
 //!
-//! Rows stand at the least whole numbers, columns at the greatest, and move only as far as a cell makes them. So no
-//! row rises above, and no column falls below, what any divisors within the limits have that give these seats.
+//! Row divisors start at the least value and column divisors at the greatest, and each moves only as far as a cell requires. So
+//! no row divisor rises above, and no column divisor falls below, that of any divisors within the limits that give these seats.
 ghost use Rattle.std.specs.Bool.{OnFalse, OnTrue};
 ghost use Rattle.std.specs.Prelude.{◌≡◌, ℕ, ◌+◌, ◌-◌, ◌*◌, ◌^◌, ◌<◌, ◌≤◌, length};
 ghost use Rattle.zh_matrices.specs.Asked.{asked};
@@ -13,16 +14,16 @@ use zh_matrices::{MOST_OF_ROW, Proposal};
 
 const ROUNDS: u32 = 1000;
 
-/// What becomes of lines that are moved.
+/// What a move of all rows, or of all columns, did.
 #[derive(Clone, Copy)]
 pub(crate) enum Move {
     Still,
     Moved,
-    /// One left its limits.
+    /// One of them left its limits.
     Out,
 }
 
-/// The least divisor of a row, from `divisor` on, under which a quotient is below the half above its seats.
+/// The least divisor of a row, from `divisor` on, that keeps a quotient below the half above its seats.
 fn raised_by_cell(votes: u64, seats: u32, column: u64, divisor: u128) -> u128
     requires votes { votes ≤ 10 ^ 14 }
     requires seats { seats ≤ 400 }
@@ -37,7 +38,7 @@ fn raised_by_cell(votes: u64, seats: u32, column: u64, divisor: u128) -> u128
     divisor.max(least)
 }
 
-/// The greatest divisor of a column, up to `divisor`, under which a quotient is above the half below its seats.
+/// The greatest divisor of a column, up to `divisor`, that keeps a quotient above the half below its seats; 0 if there is none.
 fn lowered_by_cell(votes: u64, seats: u32, row: u64, divisor: u64) -> u64
     requires votes { votes ≤ 10 ^ 14 }
     requires seats { seats ≤ 400 }
@@ -56,7 +57,7 @@ fn lowered_by_cell(votes: u64, seats: u32, row: u64, divisor: u64) -> u64
     greatest.min(u128::from(divisor)) as u64
 }
 
-/// The least divisor of a row, from `divisor` on, under which no quotient is above the half beyond its seats.
+/// The least divisor of a row, from `divisor` on, that keeps every quotient of the row below the half above its seats.
 fn raised(proposal: &Proposal<'_>, of_columns: &[u64], row: usize, divisor: u64) -> u128
     requires columns { AreWithin proposal.now.question.now.columns (10 ^ 12) of_columns.now }
     requires row { row < proposal.now.question.now.rows }
@@ -78,7 +79,7 @@ fn raised(proposal: &Proposal<'_>, of_columns: &[u64], row: usize, divisor: u64)
     least
 }
 
-/// The greatest divisor of a column, up to `divisor`, under which no quotient is below the half before its seats; 0
+/// The greatest divisor of a column, up to `divisor`, that keeps every quotient of the column above the half below its seats; 0
 /// if there is none.
 fn lowered(proposal: &Proposal<'_>, of_rows: &[u64], column: usize, divisor: u64) -> u64
     requires rows { AreWithin proposal.now.question.now.rows (10 ^ 18) of_rows.now }
@@ -101,7 +102,7 @@ fn lowered(proposal: &Proposal<'_>, of_rows: &[u64], column: usize, divisor: u64
     greatest
 }
 
-/// Raises each row as far as its cells ask for.
+/// Raises each row divisor as far as its cells require.
 fn raise_rows(proposal: &Proposal<'_>, of_columns: &[u64], of_rows: &mut [u64]) -> Move
     requires columns { AreWithin proposal.now.question.now.columns (10 ^ 12) of_columns.now }
     requires rows { AreWithin proposal.now.question.now.rows (10 ^ 18) of_rows.old }
@@ -126,7 +127,7 @@ fn raise_rows(proposal: &Proposal<'_>, of_columns: &[u64], of_rows: &mut [u64]) 
     if moved { Move::Moved } else { Move::Still }
 }
 
-/// Lowers each column as far as its cells ask for.
+/// Lowers each column divisor as far as its cells require.
 fn lower_columns(proposal: &Proposal<'_>, of_rows: &[u64], of_columns: &mut [u64], top: u64) -> Move
     requires rows { AreWithin proposal.now.question.now.rows (10 ^ 18) of_rows.now }
     requires columns { AreWithin proposal.now.question.now.columns top of_columns.old }
@@ -152,7 +153,8 @@ fn lower_columns(proposal: &Proposal<'_>, of_rows: &[u64], of_columns: &mut [u64
     if moved { Move::Moved } else { Move::Still }
 }
 
-/// Takes rows at 1 and columns at the top, and moves them for 1,000 rounds, or until nothing moves; unless one leaves its limits.
+/// Starts with rows at 1 millionth and columns at `top` and moves them for 1,000 rounds or until nothing moves. False if one
+/// leaves its limits: then no divisors within them give the seats.
 pub(crate) fn settle(
     proposal: &Proposal<'_>,
     top: u64,

@@ -1,4 +1,4 @@
-//! Where the search has no seats: those by the decision, with divisors that are looked for.
+//! After a search without seats: the seats of the decision, and divisors that give them.
 ghost use Rattle.std.specs.Bool.{OnFalse, OnTrue};
 ghost use Rattle.std.specs.Prelude.{◌≡◌, ◌*◌, ◌≤◌, All, IsTrue, length};
 ghost use Rattle.zh_decided.specs.Boxes.{GiveWithin};
@@ -17,17 +17,18 @@ use crate::divisors::{DivisorRoom, find_divisors, gives_from};
 use zh_decided::{Decision, Findings};
 use zh_matrices::{Proposal, Question};
 
-/// What is decided of a question for which the search has no seats.
+/// What was decided for a question for which the search found no seats.
 #[derive(Drop)]
 pub struct Decided {
     pub decision: Decision,
     pub findings: Findings,
 }
 
-/// What the columns are scaled down by, so that the most that one may have comes to 1.
+/// The scale by which columns are divided, so that their limit of 1,000,000 becomes 1.
 const SCALE: u64 = 1_000_000;
 
-/// Divisors that give the only seats, made easier to read where that gives them too.
+/// Leaves in `room` divisors that give the seats: the middle from the columns of the decision, which is easier to read, or the
+/// divisors of the decision themselves if that middle does not give the seats.
 fn make_readable<'x>(question: &'x Question<'x>, decided: &'x Findings, room: &mut DivisorRoom)
     requires proper { IsProper (asked question.now) }
     requires give { GiveWithin (asked question.now) decided.now.of_rows.items decided.now.of_columns.items decided.now.seats.items }
@@ -49,7 +50,7 @@ fn make_readable<'x>(question: &'x Question<'x>, decided: &'x Findings, room: &m
     room.of_columns.copy_from_slice(&decided.of_columns);
 }
 
-/// Takes these seats, and tells whether there are divisors for them.
+/// Copies the seats to `into` and tells whether they have a middle, which is left in `room`.
 fn try_seats<'x>(
     question: &'x Question<'x>,
     seats: &'x [u32],
@@ -75,8 +76,8 @@ fn try_seats<'x>(
     find_divisors(&proposal, room)
 }
 
-/// Whether seats are given by this decision, with divisors in millionths: those in the middle for a matrix that it is about, or
-/// else those by which it is decided.
+/// Whether this decision gives seats with divisors in millionths: the middle for one of its matrices, or else the divisors of
+/// the decision itself. The seats are left in `seats`, and the divisors in `room`.
 pub(crate) fn seats_by_decision(
     question: &Question<'_>,
     decided: &Decided,

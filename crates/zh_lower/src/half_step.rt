@@ -1,4 +1,5 @@
-//! The half-steps of the alternating scaling: the divisors of all rows, and of all columns, by those of the other side.
+//! The half-steps of the alternating scaling: new divisors of the rows by those of the columns, and of the columns by those of
+//! the rows.
 ghost use Rattle.std.specs.List.{range_with_len};
 ghost use Rattle.std.specs.Prelude.{◌≡◌, ℕ, ◌+◌, ◌*◌, ◌^◌, ◌<◌, ◌≤◌, All, map, length};
 ghost use Rattle.zh_lower.specs.Outcomes.{IsProper};
@@ -12,16 +13,16 @@ use crate::quotient::Quotient;
 use zh_divisors::line;
 use zh_matrices::{LINES, MOST_OF_COLUMN, MOST_OF_ROW, Question};
 
-/// Where the cells of a line are kept.
+/// The places of the cells of a line in a matrix that is stored row by row.
 #[derive(Drop)]
 struct LinePlaces {
     first: usize,
-    /// The places from each to the next.
+    /// The distance from each cell to the next.
     step: usize,
     cells: usize,
 }
 
-/// Whether the quotients of a line do not add up to its total, or one of them lies on a half.
+/// Whether a line is unsettled: its quotients do not add up to its total, or one of them is on a half.
 #[tactic(auto, using(crate::proofs::QuotientLemmas::line_steps))]
 fn is_unsettled(quotients: &[Quotient], places: LinePlaces, total: u32) -> bool
     requires cells { places.cells ≤ 32 }
@@ -39,7 +40,7 @@ fn is_unsettled(quotients: &[Quotient], places: LinePlaces, total: u32) -> bool
     sum != u128::from(total) || holds_half
 }
 
-/// Gives each row its divisor by these columns.
+/// Sets each row divisor by the rule of a line, from these column divisors.
 pub fn middle_rows(question: &Question<'_>, of_columns: &[u64], of_rows: &mut [u64])
     requires proper { IsProper (asked question.now) }
     requires rows { length of_rows.old ≡ question.now.rows }
@@ -58,7 +59,7 @@ pub fn middle_rows(question: &Question<'_>, of_columns: &[u64], of_rows: &mut [u
     }
 }
 
-/// Gives each column its divisor by these rows.
+/// Sets each column divisor by the rule of a line, from these row divisors.
 pub fn middle_columns(question: &Question<'_>, of_rows: &[u64], of_columns: &mut [u64])
     requires proper { IsProper (asked question.now) }
     requires rows { AreWithin question.now.rows (10 ^ 18) of_rows.now }
@@ -80,7 +81,7 @@ pub fn middle_columns(question: &Question<'_>, of_rows: &[u64], of_columns: &mut
     }
 }
 
-/// A half-step of the rows, from a state with these quotients.
+/// A half-step of the rows: each unsettled row gets a new divisor. The quotients are those of the state before.
 pub(crate) fn renew_rows(
     question: &Question<'_>,
     of_columns: &[u64],
@@ -107,7 +108,7 @@ pub(crate) fn renew_rows(
     }
 }
 
-/// A half-step of the columns, from a state with these quotients.
+/// A half-step of the columns: each unsettled column gets a new divisor. The quotients are those of the state before.
 pub(crate) fn renew_columns(
     question: &Question<'_>,
     of_rows: &[u64],

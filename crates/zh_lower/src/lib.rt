@@ -1,8 +1,8 @@
 //! Lower apportionment: the seats of each group in each constituency (GPR section 104).
 //!
-//! Each constituency and each group has a divisor. The votes of a group in a constituency over both
-//! divisors round to its seats there, so that the seats of each constituency and of each group add up to
-//! their totals. Where some divisors do so without a half, no others lead to other seats.
+//! Each constituency and each group has a divisor. The votes of a group in a constituency, divided by both divisors, round to
+//! its seats there. The seats of each constituency and of each group add up to their totals. If some divisors do this with no
+//! quotient on a half, no divisors give other seats.
 #![tactic(auto)]
 
 mod alternating_scaling;

@@ -1,4 +1,4 @@
-//! The seats that were found, with their divisors, or why none were.
+//! The seats that were found, with their divisors, or why there are none.
 ghost use Rattle.std.specs.Prelude.{◌≡◌, ◌-◌, ◌*◌, ◌≤◌, length, slice_index};
 ghost use Rattle.zh_lower.specs.Reasons.{fault_of};
 ghost use Rattle.zh_lower.specs.declared.lower.LowerFault.TheVariants.{Memory};
@@ -10,8 +10,8 @@ use crate::tie::Tie;
 use std::alloc::AllocError;
 use std::marker::Model;
 
-/// The seats of each group, a column, in each constituency, a row, and the divisors that give them. Rows and
-/// columns are counted from 1.
+/// The seats of each group (column) in each constituency (row), and the divisors that give them. Rows and columns are counted
+/// from 1.
 #[derive(Drop)]
 pub struct Lower {
     seats: Vec<u32>,
@@ -78,14 +78,15 @@ impl Lower {
 /// Why a lower apportionment gives no seats. Rows and columns are counted from 1.
 #[derive(Clone, Copy, Debug, PartialEq, Eq)]
 pub enum LowerFault {
-    /// Memory ran out.
+    /// Memory was refused.
     Memory,
-    /// This row, the first such, has no vote.
+    /// This row is the first one without a vote.
     NoVotes(u32),
-    /// Two different matrices follow from the same divisors, and this row and column have the first
-    /// quotient on a half.
+    /// The search reached a tie: two different matrices follow from the same divisors. The first quotient on a half is in this
+    /// row and this column.
     Tied(u32, u32),
-    /// The search came to its end.
+    /// The search found neither seats nor a tie, and the decision gave no seats that can be shown. Or the row totals and the
+    /// column totals have different sums.
     Exhausted,
 }
 
@@ -97,18 +98,18 @@ impl From<AllocError> for LowerFault {
     }
 }
 
-/// Why a lower apportionment gives no seats, with all that was found of it.
+/// Why a lower apportionment gives no seats, with everything that was found out about it.
 #[derive(Drop)]
 pub enum NoLower {
-    /// Memory ran out.
+    /// Memory was refused.
     Memory,
     /// This row, counted from 1, is the first without a vote.
     NoVotes(u32),
-    /// Rows and columns are to get different numbers of seats.
+    /// The row totals and the column totals have different sums.
     Unbalanced,
-    /// The search came to this tie.
+    /// The search reached this tie.
     Tied(Tie),
-    /// The search came to its end, and what was decided then gives no seats that can be shown.
+    /// The search found neither seats nor a tie, and this decision gave no seats that can be shown.
     Exhausted(Decided),
 }
 

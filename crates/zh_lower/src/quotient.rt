@@ -12,7 +12,7 @@ ghost use Rattle.zh_lower.specs.States as states;
 use crate::alternating_scaling::{SearchRoom, SearchState};
 use zh_matrices::Question;
 
-/// A quotient: rounded to the nearest whole number, a half up, and whether it lies on a half.
+/// A quotient, rounded to the nearest whole number (half up), and whether it is on a half.
 #[derive(Clone, Copy)]
 pub struct Quotient {
     pub rounded: u128,
@@ -39,7 +39,7 @@ pub(crate) fn product(one: u64, other: u64) -> u128
     u128::from(one) * u128::from(other)
 }
 
-/// A quotient whose parts fit 64 bits, as those of most cells do.
+/// A quotient of two numbers that fit into 64 bits, as they do for most cells.
 fn divided_short(raised: u64, double: u64) -> Quotient
     requires { 1 ≤ double }
     ensures rounded { result.rounded ≡ raised / double }
@@ -51,7 +51,7 @@ fn divided_short(raised: u64, double: u64) -> Quotient
     }
 }
 
-/// The quotient that is `raised` by a half, over the double of what it is divided by.
+/// The quotient n / p, from 2 n + p and 2 p.
 fn divided(raised: u128, double: u128) -> Quotient
     requires { 1 ≤ double }
     ensures rounded { result.rounded ≡ raised / double }
@@ -67,7 +67,7 @@ fn divided(raised: u128, double: u128) -> Quotient
     }
 }
 
-/// The quotient of votes over a product of two divisors in millionths, rounded to the nearest whole number, a half down.
+/// The quotient of votes over a product of two divisors in millionths, rounded to the nearest whole number (half down).
 pub(crate) fn half_down(votes: u64, product: u128) -> u128
     requires votes { votes ≤ 10 ^ 14 }
     requires from_1 { 1 ≤ product }
@@ -91,7 +91,7 @@ pub(crate) fn votes_over(votes: u64, product: u128) -> Quotient
     divided(twice + product, 2 * product)
 }
 
-/// The product of the two divisors of a place.
+/// The product of the two divisors of the cell in a place.
 pub(crate) fn product_at(
     question: &Question<'_>,
     of_rows: &[u64],
@@ -110,7 +110,7 @@ pub(crate) fn product_at(
     )
 }
 
-/// The quotient of a place.
+/// The quotient of the cell in a place.
 pub(crate) fn quotient_at(question: &Question<'_>, state: &SearchState, place: usize) -> Quotient
     requires limits { AreWithinLimits (asked question.now) state.now.of_rows.items state.now.of_columns.items }
     requires place { place < question.now.rows * question.now.columns }
@@ -120,14 +120,14 @@ pub(crate) fn quotient_at(question: &Question<'_>, state: &SearchState, place: u
     votes_over(question.votes[place], product)
 }
 
-/// A quotient as a number of seats, and 400 where it is more.
+/// A quotient as a number of seats, capped at 400.
 fn capped(quotient: u128) -> u32
     ensures { result ≡ min 400 quotient }
 {
     quotient.min(400) as u32
 }
 
-/// The quotient of each cell, and the seats that it rounds to, a half up.
+/// Writes the quotient of each cell, and the seats that it rounds to (half up).
 fn round_each(
     question: &Question<'_>,
     state: &SearchState,
@@ -147,7 +147,7 @@ fn round_each(
     }
 }
 
-/// Leaves the quotients in the room, and the seats that they round to.
+/// Leaves in the room the quotient of each cell, and the seats that it rounds to (half up).
 pub(crate) fn round_cells(question: &Question<'_>, state: &SearchState, room: &mut SearchRoom)
     requires limits { AreWithinLimits (asked question.now) state.now.of_rows.items state.now.of_columns.items }
     requires room { IsSearchRoom (asked question.now) room.old }
@@ -158,14 +158,14 @@ pub(crate) fn round_cells(question: &Question<'_>, state: &SearchState, room: &m
     round_each(question, state, &mut room.quotients, &mut room.seats);
 }
 
-/// The place of the first quotient on a half.
+/// The place of the first quotient on a half, if there is one.
 fn first_half_place(quotients: &[Quotient]) -> Option<usize>
     ensures { result ≡ position (λ quotient. quotient.is_half) quotients.now }
 {
     quotients.iter().position(|quotient| quotient.is_half)
 }
 
-/// Its row and column, both counted from 1.
+/// The row and the column of the first quotient on a half, both counted from 1.
 pub(crate) fn first_half(question: &Question<'_>, room: &SearchRoom) -> Option<(u32, u32)>
     requires { length room.now.quotients.items ≡ question.now.rows * question.now.columns }
     ensures first { (of_rows of_columns : List ℕ) →

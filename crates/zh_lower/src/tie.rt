@@ -1,4 +1,4 @@
-//! A tie: the divisors that leave it, and the seats that the lot decides between.
+//! A tie: the divisors from which two matrices follow, and the seats that the lot decides.
 ghost use Rattle.std.specs.Bool.{OnFalse, OnTrue};
 ghost use Rattle.std.specs.Prelude.{◌≡◌, ℕ, ◌*◌, ◌<◌, IfOk, length, slice_index, min};
 ghost use Rattle.zh_decided.specs.Bounds.{IsAnotherAt, IsFixedAt, IsWithin, asked_in, bounds_of};
@@ -15,7 +15,7 @@ use std::alloc::{AllocError, Global};
 use zh_decided::{CellBounds, differ_at};
 use zh_matrices::Question;
 
-/// A tie to which the search comes: its divisors with one of the matrices that follow from them.
+/// A tie that the search reached: its divisors, and one of the matrices that follow from them.
 #[derive(Drop)]
 pub struct Tie {
     /// The row and the column of the first quotient on a half, counted from 1.
@@ -25,14 +25,14 @@ pub struct Tie {
     pub seats: Vec<u32>,
 }
 
-/// The fewest and the most seats of each cell in all matrices that may be drawn, row by row.
+/// The fewest and the most seats of each cell over all matrices that may be drawn, row by row.
 #[derive(Drop)]
 pub struct Ranges {
     pub least: Vec<u32>,
     pub most: Vec<u32>,
 }
 
-/// Whether another matrix within the bounds has other seats in a cell.
+/// Whether some matrix within the bounds has a different number of seats in a cell.
 fn may_change(bounds: &CellBounds<'_>, seats: &[u32], place: usize, others: &mut [u32]) -> bool
     requires within { IsWithin (asked_in bounds.now) (bounds_of bounds.now) seats.now }
     requires place { place < bounds.now.question.now.rows * bounds.now.question.now.columns }
@@ -43,7 +43,7 @@ fn may_change(bounds: &CellBounds<'_>, seats: &[u32], place: usize, others: &mut
     bounds.least[place] < bounds.most[place] && differ_at(bounds, seats, place, others)
 }
 
-/// The fewest and the most seats of a cell: both its bounds, or the seats that all matrices have there.
+/// The fewest and the most seats of a cell: its two bounds, or the one number that all matrices have there.
 fn range_at(bounds: &CellBounds<'_>, seats: &[u32], place: usize, others: &mut [u32]) -> (u32, u32)
     requires enclose { EncloseDraws (asked_in bounds.now) (bounds_of bounds.now) }
     requires within { IsWithin (asked_in bounds.now) (bounds_of bounds.now) seats.now }
@@ -58,7 +58,7 @@ fn range_at(bounds: &CellBounds<'_>, seats: &[u32], place: usize, others: &mut [
     }
 }
 
-/// Takes the range of each cell.
+/// Writes the range of each cell to `ranges`.
 fn take_ranges(bounds: &CellBounds<'_>, seats: &[u32], others: &mut [u32], ranges: &mut Ranges)
     requires enclose { EncloseDraws (asked_in bounds.now) (bounds_of bounds.now) }
     requires within { IsWithin (asked_in bounds.now) (bounds_of bounds.now) seats.now }
@@ -74,10 +74,10 @@ fn take_ranges(bounds: &CellBounds<'_>, seats: &[u32], others: &mut [u32], range
     }
 }
 
-/// The fewest and the most seats of each cell in all matrices that may be drawn at a tie.
+/// The fewest and the most seats of each cell over all matrices that may be drawn at a tie.
 ///
-/// The lot decides between matrices that differ exactly in the cells whose two numbers differ. All memory is taken at the
-/// start.
+/// The matrices between which the lot decides differ exactly in the cells whose two numbers differ. Fails if memory is refused;
+/// all memory is allocated at the start.
 pub fn lot(alloc: Global, question: &Question<'_>, tie: &Tie) -> Result<Ranges, AllocError>
     requires { IsLowerTie (asked question.now) tie.now }
     ensures { IfOk result (λ ranges. AreRanges (asked question.now) ranges.least.items ranges.most.items) }
@@ -100,14 +100,14 @@ pub fn lot(alloc: Global, question: &Question<'_>, tie: &Tie) -> Result<Ranges, 
     Ok(ranges)
 }
 
-/// A quotient as a number of seats, and 401 where it is more: no row gets as many.
+/// A quotient as a number of seats, capped at 401, which is more than a row gets.
 fn bounded(quotient: u128) -> u32
     ensures { result ≡ min 401 quotient }
 {
     quotient.min(401) as u32
 }
 
-/// The fewest seats of a place.
+/// The fewest seats that the divisors of a state allow the cell in a place.
 fn least_at(question: &Question<'_>, state: &SearchState, place: usize) -> u32
     requires limits { AreWithinLimits (asked question.now) state.now.of_rows.items state.now.of_columns.items }
     requires place { place < question.now.rows * question.now.columns }
@@ -117,7 +117,7 @@ fn least_at(question: &Question<'_>, state: &SearchState, place: usize) -> u32
     bounded(half_down(question.votes[place], product))
 }
 
-/// The most seats of a place.
+/// The most seats that the divisors of a state allow the cell in a place.
 fn most_at(question: &Question<'_>, state: &SearchState, place: usize) -> u32
     requires limits { AreWithinLimits (asked question.now) state.now.of_rows.items state.now.of_columns.items }
     requires place { place < question.now.rows * question.now.columns }
@@ -126,7 +126,7 @@ fn most_at(question: &Question<'_>, state: &SearchState, place: usize) -> u32
     bounded(quotient_at(question, state, place).rounded)
 }
 
-/// The fewest and the most seats of each cell.
+/// The fewest and the most seats that the divisors of a state allow each cell, row by row.
 pub fn bound_cells(
     question: &Question<'_>,
     state: &SearchState,
@@ -145,7 +145,7 @@ pub fn bound_cells(
     }
 }
 
-/// Leaves them in the room.
+/// Leaves in the room the fewest and the most seats that the divisors of a state allow each cell.
 pub(crate) fn bound_room(question: &Question<'_>, state: &SearchState, room: &mut SearchRoom)
     requires limits { AreWithinLimits (asked question.now) state.now.of_rows.items state.now.of_columns.items }
     requires room { IsSearchRoom (asked question.now) room.old }

@@ -1,4 +1,4 @@
--- What the crates above may use.
+-- The lemmas that crates above can use.
 pub use Rattle.zh_matrices.proofs.CellLemmas.{one_if}
 pub use Rattle.zh_matrices.proofs.MatrixPlaceLemmas.{column_of, place-div, place-mod, positive_place, row_of}
 pub use Rattle.zh_matrices.proofs.OneAnswerLemmas.{no_seats, only_seats, weakened}

@@ -5,7 +5,7 @@ use Rattle.std.proofs.Math.Nat.{mul-le-mul_left, mul-le-mul_right, mul-lt-mul_of
 use Rattle.zh_divisors.specs.Rounding.{Rounds}
 use Rattle.zh_matrices.specs.SeatMatrix.{MayRound}
 
--- a larger divisor gives no more
+-- a larger divisor gives no more seats
 pub fewer : (v k k' p p' s s' : ℕ) → 0 < k' → Rounds (v * k) p s → MayRound (v * k') p' s' →
     p * k' ≤ p' * k → s' ≤ s
 fewer v k k' p p' s s' pos h h' le =
@@ -19,7 +19,7 @@ fewer v k k' p p' s s' pos h h' le =
       | inr le ↦ le
     ]
 
--- a smaller divisor gives no fewer
+-- a smaller divisor gives no fewer seats
 pub more : (v k k' p p' s s' : ℕ) → 0 < k' → Rounds (v * k) p s → MayRound (v * k') p' s' →
     p' * k ≤ p * k' → s ≤ s'
 more v k k' p p' s s' pos h h' le =
@@ -33,14 +33,14 @@ more v k k' p p' s s' pos h h' le =
       | inr le ↦ le
     ]
 
--- ratios in a chain
+-- a chain of ratios
 pub chain : (a a' b b' u w : ℕ) → 0 < a → 0 < a' → a' * b ≤ b' * a → a * u ≤ a' * w → b * u ≤ b' * w
 chain a a' b b' u w p q h k =
     let e : (a' * b) * (a * u) ≤ (b' * a) * (a' * w) = mul-le-mul h k in
     let f : (a * a') * (b * u) ≤ (a * a') * (b' * w) = omega arith in
     le_of_mul-le-mul_left f (mul-pos p q)
 
--- 1 for yes and 0 for no
+-- 1 for true and 0 for false
 abbrev pub one_if : Bool → ℕ
 one_if b = cond b 1 0
 

@@ -1,11 +1,11 @@
--- Places of a matrix that is kept row by row.
+-- Places of a matrix that is listed row by row.
 use Rattle.std.proofs.Common.{◌≡◌, ℕ, zero, suc, ◌+◌, ◌*◌, ◌/◌, ◌%◌, ◌<◌, inl, inr, ap, arith}
 use Rattle.std.proofs.lemmas.Bool.{cases_lt}
 use Rattle.std.proofs.lemmas.Nat.{div_below, div-mul-add}
 use Rattle.std.proofs.Math.Nat.{div-add-mod', mod-lt, mul-zero}
 use Rattle.zh_divisors.specs.Sums.{sum_to}
 
--- a matrix with a place has a column
+-- a matrix that has a place has a column
 some_column : (m n k : ℕ) → k < m * n → 0 < n
 some_column m n k lt = elim (cases_lt 0 n) [
   | inl some ↦ some
@@ -28,7 +28,7 @@ place-mod d g n lt =
     let same : (d * n + g) / n * n ≡ d * n = ap (λ e. e * n) (place-div d g n lt) in
     omega (arith, whole, same)
 
--- a positive number among those of a list
+-- a positive sum has a positive term
 pub positive_place : (n : ℕ) (votes : ℕ → ℕ) → 0 < sum_to n votes → (i : ℕ) × (i < n) × (0 < votes i)
 positive_place zero votes some = absurd (omega arith)
 positive_place (suc n) votes some =

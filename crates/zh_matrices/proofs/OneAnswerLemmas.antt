@@ -1,4 +1,4 @@
--- Two matrices with the same totals, of which one is strict.
+-- Two matrices with the same totals, one of which is strict.
 use Rattle.std.proofs.Common.{◌≡◌, ◌≢◌, ℕ, List, sym, ◌∙◌}
 use Rattle.std.proofs.Math.Nat.{le_of_lt}
 use Rattle.zh_divisors.specs.Rounding.{Rounds}
@@ -15,7 +15,7 @@ strict-weak = record { fewer = fewer; more = more }
 pub only_seats : (q : Question) (x y : Divisors) (s t : List ℕ) → IsStrict q x s → IsWeak q y t → t ≡ s
 only_seats q x y s t S W = same_seats Rounds MayRound strict-weak q x y s t S W
 
--- of two different matrices under the same divisors no other is strict
+-- if two different matrices follow from the same divisors, no matrix is strict under any divisors
 pub no_seats : (q : Question) (x : Divisors) (s t : List ℕ) → IsWeak q x s → IsWeak q x t → s ≢ t →
     (y : Divisors) (u : List ℕ) → ¬ IsStrict q y u
 no_seats q x s t S T differ y u strict = differ (only_seats q y x u s strict S ∙ sym (only_seats q y x u t strict T))

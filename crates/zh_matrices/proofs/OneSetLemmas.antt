@@ -1,4 +1,4 @@
--- One set of divisors serves all: what follows weakly from some divisors follows from any others that give a matrix at all.
+-- One set of divisors is enough: a matrix that follows weakly from some divisors follows from all divisors that give a matrix.
 use Rattle.std.proofs.Common.{◌≡◌, ℕ, ◌+◌, ◌-◌, ◌*◌, ◌<◌, ◌≤◌, ◌↔◌, leb, List, slice_index, inl, inr, ap, sym, ◌∙◌, arith}
 use Rattle.std.proofs.lemmas.Bool.{leb-true, leb-false, le-leb, lt-leb, cases_lt}
 use Rattle.std.proofs.Math.Nat.{mul-pos, mul-le-mul_left, mul-le-mul_right, mul-lt-mul_of_pos_left, mul-lt-mul_of_pos_right, le_of_mul-le-mul_left}
@@ -8,7 +8,7 @@ use Rattle.zh_matrices.specs.Question.{Question, cell}
 use Rattle.zh_matrices.specs.SeatMatrix.{IsWeak, MayRound}
 use Rattle.zh_matrices.proofs.TwoRoundingLemmas.{block}
 
--- a smaller quotient rounds to no more
+-- a smaller quotient does not round to a larger number
 smaller : (v k k' p p' s s' : ℕ) → MayRound (v * k) p s → MayRound (v * k') p' s' → p * k' < p' * k → s' ≤ s
 smaller v k k' p p' s s' h h' lt =
     elim (cases_lt s s') [
@@ -36,7 +36,7 @@ same_quotient v k k' p p' s pos same h = record {
       le_of_mul-le-mul_left c pos;
 }
 
--- ratios in a chain with one that is strict
+-- a chain of ratios, one of which is strict
 second_strict : (a a' b b' u w : ℕ) → 0 < a → 0 < a' → 0 < b' → a' * b ≤ b' * a → a * u < a' * w → b * u < b' * w
 second_strict a a' b b' u w p q r h k =
     elim (cases_lt (b * u) (b' * w)) [
@@ -63,11 +63,11 @@ first_strict a a' b b' u w p q r h k =
 abbrev unit : Divisors → ℕ
 unit x = x.scale * x.scale
 
--- the products of a cell's divisors, in a common unit
+-- the product of a cell's divisors, in a common unit
 abbrev product : Divisors → Divisors → ℕ → ℕ → ℕ
 product x y d g = slice_index x.of_rows d * (slice_index x.of_columns g * unit y)
 
--- a cell with a smaller quotient under y has the same seats
+-- a cell with a smaller quotient under y has the same seats in both matrices
 same_where_smaller : (q : Question) (x y : Divisors) (s t : List ℕ) → IsWeak q x s → IsWeak q y t →
     (e f : ℕ) → e < q.rows → f < q.columns → product x y e f < product y x e f → cell q.columns t e f ≡ cell q.columns s e f
 same_where_smaller q x y s t S W e f em fn smaller_there =
@@ -111,7 +111,7 @@ rounds_under q x y s t S W d g dm gn =
           ]
     ]
 
--- divisors that give a matrix give every other that follows from any divisors
+-- divisors that give a matrix give every other matrix that follows from any divisors
 pub one_set : (q : Question) (x y : Divisors) (s t : List ℕ) → IsWeak q x s → IsWeak q y t → IsWeak q x t
 one_set q x y s t S W = record {
   one_each = W.one_each;
@@ -123,7 +123,7 @@ one_set q x y s t S W = record {
   each_rounds = rounds_under q x y s t S W;
 }
 
--- two matrices that may be drawn differ where the fewest seats are not the most
+-- two matrices that may be drawn differ in a cell exactly if its fewest seats are less than its most
 pub differ_in_range : (q : Question) (d g least most : ℕ) → HasRange q d g least most → DrawsDiffer q d g ↔ (least < most)
 differ_in_range q d g least most range = (
   λ draws.

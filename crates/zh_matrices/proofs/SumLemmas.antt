@@ -15,7 +15,7 @@ pub sum_to-mul : (n a : ℕ) (f : ℕ → ℕ) → sum_to n (λ i. a * f i) ≡ 
 sum_to-mul zero a f = omega arith
 sum_to-mul (suc n) a f = omega (arith, sum_to-mul n a f)
 
--- terms that are at most the others, with a sum that is at least theirs, are the others
+-- terms that are at most others, one by one, and have at least their sum are equal to them
 pub same_terms : (n : ℕ) (f g : ℕ → ℕ) → ((i : ℕ) → i < n → f i ≤ g i) → sum_to n g ≤ sum_to n f →
     (i : ℕ) → i < n → f i ≡ g i
 same_terms zero f g below least i lt = omega arith
@@ -34,7 +34,7 @@ same_terms (suc n) f g below least i lt =
 abbrev pub total : ℕ → ℕ → (ℕ → ℕ → ℕ) → ℕ
 total m n f = sum_to m (λ d. sum_to n (λ g. f d g))
 
--- row by row or column by column
+-- the sum row by row is the sum column by column
 pub total-swap : (m n : ℕ) (f : ℕ → ℕ → ℕ) → total m n f ≡ total n m (λ g d. f d g)
 total-swap zero n f = sym (sum_to-zero n (λ i. 0) (λ i lt. refl))
 total-swap (suc m) n f =
@@ -54,7 +54,7 @@ same_cells m n f h below least d g dm gn =
     (λ i l. sum_to-le n (λ g. f i g) (λ g. h i g) (λ j k. below i j l k)) least d dm)))
     g gn
 
--- weights of rows or of columns see the totals alone
+-- a sum with a weight for each row, or for each column, depends only on the totals
 pub weigh_rows : (m n : ℕ) (w : ℕ → ℕ) (s t : ℕ → ℕ → ℕ) →
     ((d : ℕ) → d < m → sum_to n (λ g. s d g) ≡ sum_to n (λ g. t d g)) →
     total m n (λ d g. w d * s d g) ≡ total m n (λ d g. w d * t d g)

@@ -1,4 +1,4 @@
--- Two matrices with the same totals, which follow by two ways of rounding from two sets of divisors.
+-- Two matrices with the same totals that follow from two sets of divisors by two kinds of rounding.
 use Rattle.std.proofs.Common.{◌≡◌, ℕ, ◌+◌, ◌*◌, ◌/◌, ◌%◌, ◌<◌, ◌≤◌, Bool, true, false, cond, leb, ltb, List, length, get_or, slice_index, sym, ap, ◌∙◌, inl, inr, arith}
 use Rattle.std.proofs.lemmas.Bool.{leb-true, leb-false, ltb-true, ltb-false, le-leb, le-ltb, cases_lt}
 use Rattle.std.proofs.lemmas.List.{ext_get_or}
@@ -11,14 +11,14 @@ use Rattle.zh_matrices.specs.SeatMatrix.{Follows}
 use Rattle.zh_matrices.proofs.CellLemmas.{chain, one_if, weighed}
 use Rattle.zh_matrices.proofs.SumLemmas.{total-add, same_cells, weigh_rows, weigh_columns, same_terms}
 
--- of one cell under two sets of divisors, a larger divisor gives no more by the second way than a smaller one by the first, and a
--- smaller one no fewer
+-- in one cell a divisor that is not smaller gives no more seats by the second rounding than the other gives by the first, and a
+-- divisor that is not larger gives no fewer
 pub record Separates (P Q : ℕ → ℕ → ℕ → Type 0) : Type 0 where
   pub fewer : (v k k' p p' s s' : ℕ) → 0 < k' → P (v * k) p s → Q (v * k') p' s' → p * k' ≤ p' * k → s' ≤ s
   pub more : (v k k' p p' s s' : ℕ) → 0 < k' → P (v * k) p s → Q (v * k') p' s' → p' * k ≤ p * k' → s ≤ s'
 
--- where t is at most s in the rows of a and outside the columns of b, and at least s outside the rows and in the columns,
--- t is s in the rows of a and outside the columns of b
+-- if t is at most s in the rows of a outside the columns of b, and at least s in the columns of b outside the rows of a,
+-- then t equals s in the rows of a outside the columns of b
 pub block : (m n : ℕ) (a b : ℕ → Bool) (s t : ℕ → ℕ → ℕ) →
     ((d : ℕ) → d < m → sum_to n (λ g. s d g) ≡ sum_to n (λ g. t d g)) →
     ((g : ℕ) → g < n → sum_to m (λ d. s d g) ≡ sum_to m (λ d. t d g)) →
@@ -44,7 +44,7 @@ block m n a b s t rows columns least most e f em fn ae bf =
 abbrev unit : Divisors → ℕ
 unit x = x.scale * x.scale
 
--- a cell whose divisors' product is no smaller under y than under x
+-- a cell whose product of divisors is not smaller under y than under x has the same seats
 same_above : (P Q : ℕ → ℕ → ℕ → Type 0) → Separates P Q → (q : Question) (x y : Divisors) (s t : List ℕ) → Follows P q x s → Follows Q q y t →
     (e f : ℕ) → e < q.rows → f < q.columns →
     slice_index x.of_rows e * (slice_index x.of_columns f * unit y) ≤ slice_index y.of_rows e * (slice_index y.of_columns f * unit x) →
@@ -93,7 +93,7 @@ same_cell P Q apart q x y s t S W d g dm gn =
     (le_of_eq (W.rows_add_up d dm ∙ sym (S.rows_add_up d dm)))
     g gn)
 
--- lists of m rows that agree at each cell
+-- lists of m rows that agree in each cell are equal
 pub same_from_cells : (m n : ℕ) (s t : List ℕ) → length s ≡ m * n → length t ≡ m * n →
     ((d g : ℕ) → d < m → g < n → cell n t d g ≡ cell n s d g) → t ≡ s
 same_from_cells m n s t ls lt h =

@@ -1,4 +1,4 @@
--- What a borrowed question of the code asks.
+-- The value of a `Question` of the code, which borrows its votes and totals.
 use Rattle.zh_matrices.specs.Question.{Question}
 use Rattle.zh_matrices.specs.declared.question.Question as borrowed
 

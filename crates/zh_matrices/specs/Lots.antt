@@ -9,13 +9,13 @@ pub record MayBeDrawn (q : Question) (seats : List ℕ) : Type 0 where
   pub divisors : Divisors
   pub weak : IsWeak q divisors seats
 
--- some matrix that may be drawn has so many seats in row d and column g, both counted from 0
+-- some matrix that may be drawn has this number of seats in row d and column g, both counted from 0
 pub record IsDrawnAt (q : Question) (d g number : ℕ) : Type 0 where
   pub seats : List ℕ
   pub drawn : MayBeDrawn q seats
   pub there : cell q.columns seats d g ≡ number
 
--- two matrices that may be drawn have different seats there
+-- two matrices that may be drawn have different seats in row d and column g
 pub record DrawsDiffer (q : Question) (d g : ℕ) : Type 0 where
   pub seats : List ℕ
   pub others : List ℕ
@@ -23,7 +23,7 @@ pub record DrawsDiffer (q : Question) (d g : ℕ) : Type 0 where
   pub other : MayBeDrawn q others
   pub differ : cell q.columns seats d g ≢ cell q.columns others d g
 
--- these are the fewest and the most seats there of all matrices that may be drawn
+-- these are the fewest and the most seats in row d and column g of all matrices that may be drawn
 pub record HasRange (q : Question) (d g least most : ℕ) : Type 0 where
   pub at_least : (seats : List ℕ) → MayBeDrawn q seats → least ≤ cell q.columns seats d g
   pub at_most : (seats : List ℕ) → MayBeDrawn q seats → cell q.columns seats d g ≤ most

@@ -4,12 +4,12 @@ use Rattle.zh_matrices.specs.Divisors.{Divisors}
 use Rattle.zh_matrices.specs.Question.{Question, cell}
 use Rattle.zh_matrices.specs.SeatMatrix.{Follows}
 
--- n / p lies at most the factor beyond the halves around s
+-- n / p passes the halves around s by at most the factor
 pub record NearlyRounds (n p s : ℕ) : Type 0 where
   pub to_upper : 131072 * (2 * n) ≤ 131073 * ((2 * s + 1) * p)
   pub from_lower : 1 ≤ s → 131072 * ((2 * s - 1) * p) ≤ 131073 * (2 * n)
 
--- n / p rounds to s, and keeps clear of each half by the factor
+-- n / p rounds to s and is clear of each half by more than the factor
 pub record RoundsClearly (n p s : ℕ) : Type 0 where
   pub below_upper : 131073 * (2 * n) < 131072 * ((2 * s + 1) * p)
   pub above_lower : 1 ≤ s → 131073 * ((2 * s - 1) * p) < 131072 * (2 * n)
@@ -18,11 +18,11 @@ pub record RoundsClearly (n p s : ℕ) : Type 0 where
 abbrev pub IsNear : Question → Divisors → List ℕ → Type 0
 IsNear = Follows NearlyRounds
 
--- seats that the divisors give, each quotient clear of every half by the factor
+-- seats with all totals that the divisors give, each quotient clear of every half by more than the factor
 abbrev pub IsClear : Question → Divisors → List ℕ → Type 0
 IsClear = Follows RoundsClearly
 
--- row d and column g, both counted from 1, have the first cell in which two matrices differ, by row and then column
+-- the first cell, row by row, in which two matrices differ is in row d and column g, both counted from 1
 pub record DifferFirstAt (q : Question) (seats others : List ℕ) (d g : ℕ) : Type 0 where
   pub row_from_1 : 1 ≤ d
   pub row : d ≤ q.rows
@@ -32,13 +32,13 @@ pub record DifferFirstAt (q : Question) (seats others : List ℕ) (d g : ℕ) : 
   pub rows_before : (e f : ℕ) → e < d - 1 → f < q.columns → cell q.columns seats e f ≡ cell q.columns others e f
   pub columns_before : (f : ℕ) → f < g - 1 → cell q.columns seats (d - 1) f ≡ cell q.columns others (d - 1) f
 
--- the two matrices follow nearly from the same divisors, and differ first in row d and column g
+-- the two matrices nearly follow from the same divisors, and the first cell in which they differ is in row d and column g
 pub record AreNearlyTied (q : Question) (x : Divisors) (seats others : List ℕ) (d g : ℕ) : Type 0 where
   pub one : IsNear q x seats
   pub other : IsNear q x others
   pub first : DifferFirstAt q seats others d g
 
--- some two do
+-- some two matrices are nearly tied, and the first cell in which they differ is in row d and column g
 pub record IsNearlyTied (q : Question) (d g : ℕ) : Type 0 where
   pub divisors : Divisors
   pub seats : List ℕ

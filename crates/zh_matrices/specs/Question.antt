@@ -3,13 +3,13 @@
 use Rattle.std.specs.Prelude.{◌≡◌, ℕ, ◌+◌, ◌-◌, ◌*◌, ◌^◌, ◌<◌, ◌≤◌, List, All, length, slice_index}
 use Rattle.zh_divisors.specs.Sums.{sum_to}
 
--- votes in rows, the constituencies, and columns, the groups; kept row by row
+-- votes in rows (the constituencies) and columns (the groups), listed row by row
 pub record VoteMatrix : Type 0 where
   pub rows : ℕ
   pub columns : ℕ
   pub votes : List ℕ
 
--- 1 to 32 rows and columns, and votes of at most 10^14
+-- 1 to 32 rows, 1 to 32 columns, and at most 10^14 votes in a cell
 pub record IsVoteMatrix (matrix : VoteMatrix) : Type 0 where
   pub some_row : 1 ≤ matrix.rows
   pub few_rows : matrix.rows ≤ 32
@@ -18,7 +18,7 @@ pub record IsVoteMatrix (matrix : VoteMatrix) : Type 0 where
   pub length_votes : length matrix.votes ≡ matrix.rows * matrix.columns
   pub each_vote : All (λ v. v ≤ 10 ^ 14) matrix.votes
 
--- the number in row d and column g of a matrix that is kept row by row, both counted from 0
+-- the number in row d and column g, both counted from 0, of a matrix that is listed row by row
 abbrev pub cell : ℕ → List ℕ → ℕ → ℕ → ℕ
 cell columns m d g = slice_index m (d * columns + g)
 
@@ -46,7 +46,7 @@ row_votes q d g = cell q.columns q.votes d g
 abbrev pub column_votes : Question → ℕ → ℕ → ℕ
 column_votes q g d = cell q.columns q.votes d g
 
--- some of the first n votes is positive
+-- one of the first n numbers of votes is positive
 abbrev pub HasVotes : ℕ → (ℕ → ℕ) → Type 0
 HasVotes n votes = 0 < sum_to n votes
 
@@ -71,7 +71,7 @@ pub record IsSized (q : Question) : Type 0 where
   pub length_row_totals : length q.row_totals ≡ q.rows
   pub length_column_totals : length q.column_totals ≡ q.columns
 
--- row d, counted from 1, is the first without a vote
+-- row d, counted from 1, is the first row without votes
 pub record IsFirstWithoutVotes (q : Question) (d : ℕ) : Type 0 where
   pub from_1 : 1 ≤ d
   pub there : d ≤ q.rows

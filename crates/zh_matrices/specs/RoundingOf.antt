@@ -1,4 +1,4 @@
--- The way of rounding that a test goes by.
+-- The definition of each kind of rounding.
 use Rattle.std.specs.Prelude.{ℕ}
 use Rattle.zh_divisors.specs.Rounding.{Rounds}
 use Rattle.zh_matrices.specs.NearlyTied.{NearlyRounds}

@@ -1,4 +1,4 @@
-//! Tests of a matrix of seats with its divisors: a biproportional apportionment is shown by them, with no search.
+//! Tests of a matrix of seats with its divisors. They show that it is a biproportional apportionment, without a search.
 ghost use Rattle.std.specs.Prelude.{◌≡◌, ℕ, ◌*◌, ◌^◌, ◌<◌, ◌≤◌, ◌↔◌, All, IsTrue, length, slice_index};
 ghost use Rattle.zh_divisors.specs.Sums.{sum_to};
 ghost use Rattle.zh_matrices.specs.Asked.{asked};
@@ -10,7 +10,7 @@ ghost use Rattle.zh_matrices.specs.SeatMatrix.{EachRounds, Follows, IsStrict, Co
 use crate::question::{Matrix, Proposal, Question};
 use crate::rounding::{Rounding, product, rounds_by};
 
-/// Seats that are held against divisors by a way of rounding.
+/// Seats, the divisors with which they are tested, and the kind of rounding.
 #[derive(Drop)]
 struct Trial<'a> {
     rounding: Rounding,
@@ -56,7 +56,7 @@ impl<'a> Trial<'a> {
     }
 }
 
-/// Whether the seats have the totals, and the divisors give them by this way of rounding.
+/// Whether the seats have the totals and follow from the divisors by this kind of rounding.
 pub fn follows(
     rounding: Rounding,
     proposal: &Proposal<'_>,
@@ -78,8 +78,9 @@ pub fn follows(
         && trial.each_rounds()
 }
 
-/// Whether the seats, row by row and at most 400 each, have the totals, and follow from the divisors with
-/// no quotient on a half. Divisors are in millionths, 1 to 10^18 for a row and 1 to 10^12 for a column.
+/// Whether the seats have the totals and follow from the divisors without a quotient on a half. The seats are
+/// given row by row, at most 400 for each cell. Divisors are in millionths, 1 to 10^18 for a row and 1 to 10^12
+/// for a column.
 pub fn is_strict(
     matrix: &Matrix,
     row_totals: &[u32],
@@ -105,7 +106,7 @@ pub fn is_strict(
     follows(Rounding::Strict, &proposal, row_divisors, column_divisors)
 }
 
-/// The seats of a row.
+/// The sum of the seats of a row.
 #[tactic(auto, using(crate::proofs::SumLemmas::sum_steps))]
 pub fn row_sum(question: &Question<'_>, seats: &[u32], row: usize) -> u64
     requires seats { length seats.now ≡ question.now.rows * question.now.columns }
@@ -119,7 +120,7 @@ pub fn row_sum(question: &Question<'_>, seats: &[u32], row: usize) -> u64
     sum
 }
 
-/// The seats of a column.
+/// The sum of the seats of a column.
 #[tactic(auto, using(crate::proofs::SumLemmas::sum_steps))]
 pub fn column_sum(question: &Question<'_>, seats: &[u32], column: usize) -> u64
     requires seats { length seats.now ≡ question.now.rows * question.now.columns }
@@ -134,7 +135,7 @@ pub fn column_sum(question: &Question<'_>, seats: &[u32], column: usize) -> u64
     sum
 }
 
-/// Whether each row has its total.
+/// Whether the seats of each row add up to its total.
 pub(crate) fn rows_add_up(question: &Question<'_>, seats: &[u32]) -> bool
     requires { length seats.now ≡ question.now.rows * question.now.columns }
     ensures { IsTrue result ↔ RowsAddUp (asked question.now) seats.now }
@@ -147,7 +148,7 @@ pub(crate) fn rows_add_up(question: &Question<'_>, seats: &[u32]) -> bool
     true
 }
 
-/// Whether each column has its total.
+/// Whether the seats of each column add up to its total.
 pub(crate) fn columns_add_up(question: &Question<'_>, seats: &[u32]) -> bool
     requires { length seats.now ≡ question.now.rows * question.now.columns }
     ensures { IsTrue result ↔ ColumnsAddUp (asked question.now) seats.now }

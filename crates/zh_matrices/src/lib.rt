@@ -1,5 +1,5 @@
 //! Matrices of votes with the seats that their rows and columns are to get, and which seats follow from them under
-//! divisors (GPR section 104). It needs no search: who has the seats and the divisors can test them.
+//! divisors (GPR section 104). This needs no search: anyone who has the seats and the divisors can test them.
 #![tactic(auto)]
 
 pub use certificates::{column_sum, follows, is_strict, row_sum};

@@ -1,16 +1,17 @@
-//! Votes in rows and columns, how large they may be, the seats that each is to get, and seats that may be the answer.
+//! Votes in rows and columns, their limits, the seats that each row and each column is to get, and proposals of seats.
 ghost use Rattle.std.specs.Prelude.{◌≡◌, ℕ, ◌<◌, length, slice_index, ◌*◌, ◌≤◌, All, ◌^◌, IfOk};
 ghost use Rattle.zh_matrices.specs.Question.{IsSized};
 
 use std::alloc::{AllocError, Global};
 use std::marker::Model;
 
-/// The most lines of one kind.
+/// The greatest number of rows, and of columns.
 pub const LINES: usize = 32;
 
-/// The most that the divisor of a row may be, and that of a column, in millionths.
+/// The greatest divisor of a row, in millionths.
 pub const MOST_OF_ROW: u64 = 1_000_000_000_000_000_000;
 
+/// The greatest divisor of a column, in millionths.
 pub const MOST_OF_COLUMN: u64 = 1_000_000_000_000;
 
 #[derive(Drop)]
@@ -54,7 +55,7 @@ impl<'a> Question<'a> {
     }
 }
 
-/// A number of seats for each cell, row by row and at most 400 each.
+/// A number of seats for each cell, row by row, at most 400 for each.
 #[derive(Drop)]
 pub struct Proposal<'a> {
     pub question: &'a Question<'a>,
@@ -63,8 +64,8 @@ pub struct Proposal<'a> {
     ghost few: { All (λ s. s ≤ 400) seats.now },
 }
 
-/// The votes of each group, a column, in each constituency, a row: 1 to 32 of each, and at most 10^14 votes
-/// in a cell.
+/// The votes of each group (a column) in each constituency (a row): 1 to 32 rows, 1 to 32 columns, and at most
+/// 10^14 votes in a cell.
 #[derive(Drop)]
 pub struct Matrix {
     rows: usize,
@@ -86,7 +87,7 @@ impl Matrix {
     ghost use Rattle.zh_matrices.specs.Asked.{asked};
     ghost use Rattle.zh_matrices.specs.Question.{question};
 
-    /// The matrix of these votes, row by row.
+    /// The matrix of these votes, which are given row by row.
     pub fn new(
         alloc: Global,
         rows: usize,

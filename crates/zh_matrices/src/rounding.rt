@@ -8,15 +8,15 @@ ghost use Rattle.zh_matrices.specs.SeatMatrix.{MayRound};
 /// What becomes of a quotient on a half.
 #[derive(Clone, Copy)]
 pub enum Rounding {
-    /// It rounds to no number.
+    /// It does not round to any number.
     Strict,
-    /// It rounds to the number below it and to the one above.
+    /// It rounds to the number below it and to the number above it.
     Weak,
-    /// So does a quotient that passes a half by at most the factor 131073 / 131072 = 1 + 2^-17.
+    /// The same, and so does a quotient that passes a half by at most the factor 131073 / 131072 = 1 + 2^-17.
     Near,
 }
 
-/// Whether a quotient of votes and a product of divisors rounds to the seats, and lies on no half.
+/// Whether the quotient of votes over a product of divisors rounds to the seats and is not on a half.
 fn rounds(votes: u128, product: u128, seats: u128) -> bool
     requires votes { votes ≤ 10 ^ 26 }
     requires product { product ≤ 10 ^ 30 }
@@ -29,7 +29,7 @@ fn rounds(votes: u128, product: u128, seats: u128) -> bool
     seats == 0 || (2 * seats - 1) * product < 2 * votes
 }
 
-/// Whether it rounds to the seats, where a half may go either way.
+/// Whether this quotient rounds to the seats, a half either way.
 fn may_round(votes: u128, product: u128, seats: u128) -> bool
     requires votes { votes ≤ 10 ^ 26 }
     requires product { product ≤ 10 ^ 30 }
@@ -42,7 +42,7 @@ fn may_round(votes: u128, product: u128, seats: u128) -> bool
     seats == 0 || (2 * seats - 1) * product <= 2 * votes
 }
 
-/// Whether it lies at most the factor beyond the halves around the seats.
+/// Whether this quotient passes the halves around the seats by at most the factor 1 + 2^-17.
 fn nearly_rounds(votes: u128, product: u128, seats: u128) -> bool
     requires votes { votes ≤ 10 ^ 26 }
     requires product { product ≤ 10 ^ 30 }
@@ -55,7 +55,7 @@ fn nearly_rounds(votes: u128, product: u128, seats: u128) -> bool
     seats == 0 || 131_072 * ((2 * seats - 1) * product) <= 131_073 * (2 * votes)
 }
 
-/// The product of the divisors of a row and of a column, in millionths.
+/// The product of the divisors of a row and of a column, which are in millionths.
 pub(crate) fn product(row_divisor: u64, column_divisor: u64) -> u128
     requires row { row_divisor ≤ 10 ^ 18 }
     requires column { column_divisor ≤ 10 ^ 12 }
@@ -65,7 +65,7 @@ pub(crate) fn product(row_divisor: u64, column_divisor: u64) -> u128
     u128::from(row_divisor) * u128::from(column_divisor)
 }
 
-/// Whether the votes of a cell over the product of its two divisors, in millionths, round to its seats.
+/// Whether the votes of a cell over the product of its two divisors, which are in millionths, round to its seats.
 pub(crate) fn rounds_by(rounding: Rounding, votes: u64, product: u128, seats: u32) -> bool
     requires votes { votes ≤ 10 ^ 14 }
     requires product { product ≤ 10 ^ 30 }

@@ -1,4 +1,4 @@
--- What is answered to a line that gives no command, and to one that gives a command by itself.
+-- The answers to a line that gives no command, and to a line that gives a command by itself.
 use Rattle.std.proofs.Common.{◌≡◌, ◌<◌, ◌≤◌, ℕ, List, [], ◌∷◌, length, Bool, false, Option, Some, None, refl, sym, subst, ap, arith}
 use Rattle.std.proofs.lemmas.List.{set-get_or}
 use Rattle.zh_returns.specs.declared.row.Row.{Row}
@@ -27,7 +27,7 @@ command_acts : (old : OnDisk Ledger) (command : Command) (May : Answer → Type 
     → ReportsOutcome old command answer new → (log : Log) × Acts old (Some command) May answer log new
 command_acts old command May answer new by = (by.submission.log, (by, refl))
 
--- what is answered to a request is answered to the line that has it
+-- an answer to a request is an answer to the line with that request
 pub request_acts : (old new : OnDisk Ledger) (tally : Tally) (held : Held) (line : Line) (request : Request) (answer : Answer) → old.holder.store.broken ≡ false → line.request ≡ request
     → ((log : Log) × Acts old (command_of line.desk (rows_of held line.desk) request) (MayAnswerTo tally held line.desk request) answer log new)
     → (log : Log) × Acts old (command_of line.desk (rows_of held line.desk) line.request) (MayAnswerWhere old.holder.store.broken tally held line) answer log new
@@ -41,37 +41,37 @@ refused_batch None (requests.Batch steps.Open) refusal = refl
 refused_batch (Some rows) (requests.Batch steps.Open) refusal = refl
 refused_batch rows request refusal = refl
 
--- a refusal leaves the batches
+-- a refusal leaves the batches unchanged
 pub refused_held : (held : Held) (line : Line) (refusal : Refusal) → held ≡ held_after held line (answers.Reply (Refused refusal))
 refused_held held line refusal = rw refused_batch (sym (set-get_or _ _ _))
 
--- so does a command
+-- a command leaves the batches unchanged, too
 pub own_held : (held : Held) (line : Line) (command : DeskCommand) (reply : Reply) → line.request ≡ requests.Command command → held ≡ held_after held line (answers.Reply reply)
 own_held held line command reply is =
     let kept : batch_after (rows_of held line.desk) line.request reply ≡ rows_of held line.desk = ap (λ (request : Request). batch_after (rows_of held line.desk) request reply) is in
     rw kept (sym (set-get_or _ _ _))
 
--- what is said of the batches after a request is said of them after the line that has it
+-- the batches after a request are the batches after the line with that request
 pub step_held : (held new : Held) (line : Line) (request : Request) (reply : Reply) → line.request ≡ request
     → new ≡ with_batch held line.desk (batch_after (rows_of held line.desk) request reply) → new ≡ held_after held line (answers.Reply reply)
 step_held held new line request reply is after =
     subst (λ (r : Request). new ≡ with_batch held line.desk (batch_after (rows_of held line.desk) r reply)) (sym is) after
 
--- a query leaves them
+-- a query leaves the batches unchanged
 pub query_held : (held : Held) (line : Line) (query : DeskQuery) (answer : Answer) → line.request ≡ requests.Query query → held ≡ held_after held line answer
 query_held held line query (answers.Sheet sheet is_final) is = refl
 query_held held line query (answers.Reply reply) is =
     let kept : batch_after (rows_of held line.desk) line.request reply ≡ rows_of held line.desk = ap (λ (request : Request). batch_after (rows_of held line.desk) request reply) is in
     rw kept (sym (set-get_or _ _ _))
 
--- a commit of a batch with rows is answered as the command is
+-- a commit of a batch with rows is answered as its command is
 pub batch_acts : (old new : OnDisk Ledger) (desk : ℕ) (rows : Option (List Row)) (batch : List Row) (May : Answer → Type 0) (answer : Answer)
     → Some batch ≡ rows → 0 < length batch → ReportsOutcome old (commands.Batch desk batch) answer new → (log : Log) × Acts old (batch_of desk rows) May answer log new
 batch_acts old new desk rows [] May answer is some by = absurd (omega (arith, some))
 batch_acts old new desk rows (row ∷ batch) May answer is some by =
     subst (λ (rows : Option (List Row)). (log : Log) × Acts old (batch_of desk rows) May answer log new) is (command_acts old (commands.Batch desk (row ∷ batch)) May answer new by)
 
--- one without rows, or without a batch, is answered from memory
+-- a commit of a batch without rows, or without a batch, is answered from memory
 pub quiet_commit : (old : OnDisk Ledger) (desk : ℕ) (rows : Option (List Row)) (batch : Option (List Row)) → batch ≡ rows → None ≡ batch_of desk batch
     → (log : Log) × Acts old (batch_of desk rows) (λ answer. answer ≡ answers.Reply (answer_to_commit rows)) (answers.Reply (answer_to_commit batch)) log old
 quiet_commit old desk rows batch is none =

@@ -51,7 +51,7 @@ out_of_memory reply other by_judgement is wrong =
 same_reply : (reply other : Reply) → answers.Reply reply ≡ answers.Reply other → other ≡ reply
 same_reply reply other is = cc is
 
--- the reply is the one that is forecast
+-- the reply is as forecast
 abbrev KeepsForecast : List Finding → Reply → Type 0
 KeepsForecast found reply = IsAnswered (forecast_of found) reply
 
@@ -95,19 +95,19 @@ module _ (found : List Finding) (ledger : Ledger) (command : Command) (reply : R
       let follows' = subst (λ (v : Verdict). MayFollow v ledger command outcome) (all_taken all is) follows in
       taken_answered (list_any is_accept all) stored follows' (refused ∙ is)
 
--- what is done with what was loaded, by whether the device failed before
+-- the effect of what was loaded, by whether the device had failed before
 abbrev ActsWhere : OnDisk Office → OnDisk Office → Reply → Log → Result (List Row) LoadFault → Bool → Type 0
 ActsWhere old new reply log loaded broken =
     Acts (its_ledger old) (command_loaded broken loaded) (λ a. a ≡ answers.Reply (load_reply broken loaded)) (answers.Reply reply)
     log (its_ledger new)
 
--- its findings
+-- the findings on these records
 abbrev found_in : OnDisk Office → List Record → List Finding
 found_in old records = findings old.holder.ledger.tally records
 
 module _ (old new : OnDisk Office) (text : List ℕ) (records : List Record) (reply : Reply) (log : Log) (all : AreAll text records)
     (by_judgement : IsByJudgement reply) where
-  -- an office that is whole
+  -- an office that is not broken
   answered : (loaded : Result (List Row) LoadFault) → old.holder.ledger.store.broken ≡ false
       → LoadsFrom old.holder.ledger.tally.canton (Some text) false loaded → ActsWhere old new reply log loaded false
       → KeepsForecast (found_in old records) reply
@@ -150,7 +150,7 @@ long_refused tally (first ∷ others) part long =
     ∙ list_any-append (λ (f : Finding). refuses f.judgement) (begun tally (first ∷ others)) last
     ∙ ap (λ (b : Bool). any_refused (begun tally (first ∷ others)) || b) refused ∙ or-true (any_refused (begun tally (first ∷ others)))
 
--- a text of which not all is read
+-- a text that is not read to its end
 module _ (old new : OnDisk Office) (text : List ℕ) (records : List Record) (reply : Reply) (log : Log) (cut : EndsInPart text records) where
   cut_answered : (loaded : Result (List Row) LoadFault) → LoadsFrom old.holder.ledger.tally.canton (Some text) false loaded
       → ActsWhere old new reply log loaded false → KeepsForecast (found_in old records) reply
@@ -171,20 +171,20 @@ module _ (old new : OnDisk Office) (text : List ℕ) (records : List Record) (re
   acts_so : (broken : Bool) → old.holder.ledger.store.broken ≡ broken → ActsWhere old new reply turn.log turn.loaded broken
   acts_so broken is = subst (ActsWhere old new reply turn.log turn.loaded) is turn.acts
 
-  -- after a fault of the device, or before any
+  -- the device had failed before, or it had not
   broken_or : (old.holder.ledger.store.broken ≡ false → KeepsForecast (found_in old records) reply) → (broken : Bool)
       → old.holder.ledger.store.broken ≡ broken → KeepsForecast (found_in old records) reply
   broken_or whole true is = absurd (disturbed reply (replies.Refused refusals.ReopenDisk) by_judgement (acts_so true is).0 refl)
   broken_or whole false is = whole is
 
-  -- all of it is read
+  -- the whole text is read
   forecast_kept : AreAll text records → KeepsForecast (found_in old records) reply
   forecast_kept all =
       let whole : old.holder.ledger.store.broken ≡ false → KeepsForecast (found_in old records) reply = λ is.
       answered old new text records reply turn.log all by_judgement turn.loaded is (turn.loads is) (acts_so false is) in
       broken_or whole old.holder.ledger.store.broken refl
 
-  -- or not all
+  -- the text is not read to its end
   forecast_cut : EndsInPart text records → KeepsForecast (found_in old records) reply
   forecast_cut cut =
       let whole : old.holder.ledger.store.broken ≡ false → KeepsForecast (found_in old records) reply = λ is.

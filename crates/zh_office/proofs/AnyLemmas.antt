@@ -1,4 +1,4 @@
--- A forecast, by whether a record is refused, and whether one would be stored.
+-- A forecast, by whether a record is refused and whether one would be stored.
 use Rattle.std.proofs.Common.{◌≡◌, ℕ, nat_lt, List, [], ◌∷◌, length, Bool, true, false, if◌then◌else◌, refl, sym, ap, subst, ◌∙◌, arith, Option, None}
 use Rattle.std.specs.List.{find, list_any}
 use Rattle.std.specs.Prelude.{count_by, filter, unwrap_or}
@@ -18,7 +18,7 @@ any_refused found = list_any (λ finding. refuses finding.judgement) found
 abbrev pub any_stored : List Finding → Bool
 any_stored found = list_any (λ finding. stores finding.judgement) found
 
--- there is one where the count of them is above 0
+-- an element passes the test exactly if the count of those that pass is above 0
 filter_any : (p : Finding → Bool) (found : List Finding) → nat_lt 0 (length (filter p found)) ≡ list_any p found
 filter_any p [] = refl
 filter_any p (one ∷ found) = by (p one) refl (filter_any p found)
@@ -30,7 +30,7 @@ filter_any p (one ∷ found) = by (p one) refl (filter_any p found)
 count_any : (p : Finding → Bool) (found : List Finding) → nat_lt 0 (count_by p found) ≡ list_any p found
 count_any p found = ap (λ (n : ℕ). nat_lt 0 n) (sym (length-filter p found)) ∙ filter_any p found
 
--- so it is where the forecast is that it would be refused
+-- the forecast counts a refused record exactly if one is refused
 refused_is : (found : List Finding) (refused : Bool) → any_refused found ≡ refused → refused ≡ nat_lt 0 (forecast_of found).refused
 refused_is found refused is = sym (count_any (λ f. refuses f.judgement) found ∙ is)
 
@@ -48,11 +48,11 @@ answered_same found none not =
     subst (λ (b : Bool). IsAnsweredWhere b (any_stored found) replies.Same) (refused_is found false none)
     (subst (λ (b : Bool). IsAnsweredWhere false b replies.Same) (sym not) tt)
 
--- the first verdict that is a refusal, or this one where none is
+-- the first verdict that refuses, or this one if none does
 abbrev first_refusal : List Verdict → Verdict → Verdict
 first_refusal verdicts d = unwrap_or (find is_refusal verdicts) d
 
--- the verdict on all is a refusal where there is one
+-- the verdict on all refuses if one of them does
 some_found : (verdicts : List Verdict) (d : Verdict) → list_any is_refusal verdicts ≡ true → is_refusal (first_refusal verdicts d) ≡ true
 some_found [] d is = cc is
 some_found (v ∷ verdicts) d is = by (is_refusal v) refl (λ later. some_found verdicts d later) is

@@ -15,7 +15,7 @@ use Rattle.zh_office.proofs.FilmLemmas.{FilmsSteps-append, FilmsSteps-none, Film
 use Rattle.zh_office.proofs.RunLemmas.{Runs-append, Runs-none, Runs-one}
 use Rattle.zh_office.proofs.StepLemmas.{steps-append}
 
--- what is appended in two parts
+-- two texts appended in turn are one text appended
 pub Appends-append : (a b c : Option (List ℕ)) (xs ys : List ℕ) → Appends a b xs → Appends b c ys → Appends a c (xs ++ ys)
 Appends-append None b c xs ys f g = tt
 Appends-append (Some a) None c xs ys f g = absurd f
@@ -36,11 +36,11 @@ pub Consumes-none : (a : Option (List ℕ)) → Consumes a a []
 Consumes-none None = tt
 Consumes-none (Some a) = refl
 
--- no line is answered, and nothing written
+-- no line is answered and nothing is written
 abbrev pub AnswersAll-none : (now : Session) → AnswersAll [] now now
 AnswersAll-none now = record { out = []; log = nothing; written = Appends-none now.written; run = Runs-none now.office }
 
--- some lines are answered, and then others
+-- some lines are answered, then others
 abbrev pub AnswersAll-append : (old now new : Session) (lines more : List (List ℕ)) → AnswersAll lines old now → AnswersAll more now new → AnswersAll (lines ++ more) old new
 AnswersAll-append old now new lines more a b = record {
   out = a.out ++ b.out;
@@ -49,13 +49,13 @@ AnswersAll-append old now new lines more a b = record {
   run = Runs-append old.office now.office new.office lines more a.out b.out a.log b.log a.run b.run;
 }
 
--- a line is answered, and its answer written
+-- a line is answered and its answer written
 abbrev pub AnswersAll-one : (old new : Session) (line : List ℕ) (answer : Answer) → Turn old.office line answer new.office
     → Appends old.written new.written (text_after line answer new.office) → AnswersAll (line ∷ []) old new
 AnswersAll-one old new line answer turn written =
     record { out = text_after line answer new.office; log = turn.log; written = written; run = Runs-one old.office new.office line answer turn }
 
--- the same with what a film shows of it
+-- the same, with the film
 pub FilmsAll-none : (now : Session) → FilmsAll [] now now
 FilmsAll-none now = record { answers = AnswersAll-none now; shown = FilmsSteps-none now }
 
@@ -72,7 +72,7 @@ pub FilmsAll-one : (old new : Session) (line : List ℕ) (answer : Answer) → T
     → FilmsSteps old (step_of line answer new.office ∷ []) new → FilmsAll (line ∷ []) old new
 FilmsAll-one old new line answer turn written shown = record { answers = AnswersAll-one old new line answer turn written; shown = shown }
 
--- of these lines some are answered, and what is left gives the others and what is unfinished after them
+-- some of these lines are answered; the held line and the rest of the block give the other lines and the unfinished text after them
 pub record Progress (old now : Session) (all : List (List ℕ)) (end line rest : List ℕ) (count : ℕ) : Type 0 where
   pub answered : List (List ℕ)
   pub films : FilmsAll answered old now
@@ -81,7 +81,7 @@ pub record Progress (old now : Session) (all : List (List ℕ)) (end line rest :
   pub counted : count ≡ length answered
   pub clean : HasNoEnd line
 
--- before the first line
+-- the start, before the first line
 pub Progress-start : (old : Session) (line block : List ℕ) → HasNoEnd line → Progress old old (ended_lines (line ++ block)) (truncated (unfinished (line ++ block))) line block 0
 Progress-start old line block clean = record {
   answered = [];
@@ -92,7 +92,7 @@ Progress-start old line block clean = record {
   clean = clean;
 }
 
--- the next line of what is left
+-- the next line that the rest of the block ends
 next_line : (line part others rest : List ℕ) → HasNoEnd line → HasNoEnd part → rest ≡ part ++ 10 ∷ others → ended_lines (line ++ rest) ≡ truncated (line ++ part) ∷ ended_lines others
 next_line line part others rest clean part_clean rest_is =
     ap (λ xs. ended_lines (line ++ xs)) rest_is ∙ ap ended_lines (sym (append_assoc line part (10 ∷ others)))
@@ -119,7 +119,7 @@ Progress-more old now new all end line rest part others count answer p part_clea
       clean = refl;
     }
 
--- the answer to the next line is not written whole
+-- the answer to the next line is incomplete
 pub Progress-breaks : (old now new : Session) (all : List (List ℕ)) (end line rest part others : List ℕ) (count : ℕ) (answer : Answer) (front : ℕ)
     → Progress old now all end line rest count → HasNoEnd part → rest ≡ part ++ 10 ∷ others
     → Turn now.office (truncated (line ++ part)) answer new.office → front < length (text_after (truncated (line ++ part)) answer new.office)
@@ -147,7 +147,7 @@ Progress-breaks old now new all end line rest part others count answer front p p
       shown = FilmsFrontSteps-after old now new (steps_in p.answered old now answers) (step_of next answer new.office ∷ []) p.films.shown shown;
     }
 
--- the next line was answered by a call that succeeded
+-- the call that answers the next line succeeded
 pub Progress-answered : (old now new : Session) (all : List (List ℕ)) (end line rest part others bytes : List ℕ) (count : ℕ) (result : Result (Unit {0}) WriteFault) (done : Unit {0})
     → Progress old now all end line rest count → HasNoEnd part → rest ≡ part ++ 10 ∷ others → bytes ≡ truncated (line ++ part)
     → WritesAnswer now bytes result new → result ≡ Ok done → Progress old new all end [] others (count + 1)
@@ -157,7 +157,7 @@ Progress-answered old now new all end line rest part others bytes count result d
     let shown = rw ok at v.shown in
     Progress-more old now new all end line rest part others count v.answer p part_clean rest_is v.turn all_written shown
 
--- the next line was answered by a call that failed
+-- the call that answers the next line failed
 pub Progress-failed : (old now new : Session) (all : List (List ℕ)) (end line rest part others bytes : List ℕ) (count : ℕ) (result : Result (Unit {0}) WriteFault) (fault : WriteFault)
     → Progress old now all end line rest count → HasNoEnd part → rest ≡ part ++ 10 ∷ others → bytes ≡ truncated (line ++ part)
     → WritesAnswer now bytes result new → result ≡ Err fault → FilmsFront all old new
@@ -167,7 +167,7 @@ Progress-failed old now new all end line rest part others bytes count result fau
     let shown = rw err at v.broken in
     Progress-breaks old now new all end line rest part others count v.answer front.0 p part_clean rest_is v.turn front.1 front.2 shown
 
--- a last line of bytes that fit
+-- a nonempty last line of at most 121 bytes counts whole
 pub last_line_is : (line : List ℕ) → 0 < length line → length line ≤ 121 → last_line line ≡ line ∷ []
 last_line_is [] some fits = absurd (omega arith)
 last_line_is (byte ∷ line) some fits = ap (λ l. l ∷ []) (take_all 121 (byte ∷ line) fits)
@@ -177,7 +177,7 @@ pub last_none : (old : Session) (line : List ℕ) → length line ≡ 0 → (0 �
 last_none old [] none = (refl, FilmsAll-none old)
 last_none old (byte ∷ line) none = absurd (omega (arith, none))
 
--- the last line was answered by a call that failed
+-- the call that answers the last line failed
 pub last_failed : (old new : Session) (line bytes : List ℕ) (result : Result (Unit {0}) WriteFault) (fault : WriteFault)
     → 0 < length line → length line ≤ 121 → bytes ≡ line → WritesAnswer old bytes result new → result ≡ Err fault → FilmsFront (last_line line) old new
 last_failed old new line bytes result fault some fits bytes_are w err =
@@ -203,7 +203,7 @@ last_failed old new line bytes result fault some fits bytes_are w err =
       shown = shown;
     }
 
--- the last line was answered by a call that succeeded
+-- the call that answers the last line succeeded
 pub last_answered : (old new : Session) (line bytes : List ℕ) (result : Result (Unit {0}) WriteFault) (done : Unit {0})
     → 0 < length line → length line ≤ 121 → bytes ≡ line → WritesAnswer old bytes result new → result ≡ Ok done
     → (1 ≡ length (last_line line)) × FilmsAll (last_line line) old new
@@ -214,7 +214,7 @@ last_answered old new line bytes result done some fits bytes_are w ok =
     let one = last_line_is line some fits in
     (ap length (sym one), subst (λ ls. FilmsAll ls old new) (sym one) (FilmsAll-one old new line v.answer v.turn all_written shown))
 
--- no line ends in what is left
+-- no line ends in the rest
 pub Progress-end : (old now : Session) (line block part rest : List ℕ) (count : ℕ)
     → Progress old now (ended_lines (line ++ block)) (truncated (unfinished (line ++ block))) part rest count → HasNoEnd rest
     → TakesBlock old line block now (truncated (part ++ rest)) count

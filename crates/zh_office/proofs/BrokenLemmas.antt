@@ -1,4 +1,4 @@
--- What is answered once the device has failed under it.
+-- The answers after the device has failed under the office.
 use Rattle.std.proofs.Common.{◌≡◌, Bool, true, Option, Some, None, refl, sym, subst}
 use Rattle.zh_returns.specs.declared.command.Command.{Command}
 use Rattle.zh_commands.specs.declared.lines.Line.{Line}
@@ -14,7 +14,7 @@ use Rattle.zh_returns.specs.Tally.{Tally}
 use Rattle.zh_office.specs.Requests.{Acts, MayAnswerWhere}
 use Rattle.zh_office.specs.declared.answer.Answer.TheVariants as answers
 
--- a command is not judged any more
+-- a command is no longer judged
 broken_submission : (old : OnDisk Ledger) (command : Command) → old.holder.store.broken ≡ true → Submission old command outcomes.Broken old
 broken_submission old command broken = record {
   results = subst (λ (b : Bool). MayResultWhere b old.holder command outcomes.Broken) (sym broken) refl;
@@ -24,7 +24,7 @@ broken_submission old command broken = record {
   logs = refl;
 }
 
--- whatever a line asks for, the disk must be opened again
+-- whatever a line asks for, the disk must be reopened
 pub broken_acts : (old : OnDisk Ledger) (command : Option Command) (tally : Tally) (held : Held) (line : Line) → old.holder.store.broken ≡ true
     → (log : Log) × Acts old command (MayAnswerWhere old.holder.store.broken tally held line) (answers.Reply (Refused refusals.ReopenDisk)) log old
 broken_acts old None tally held line broken =

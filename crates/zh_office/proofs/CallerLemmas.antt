@@ -1,4 +1,4 @@
--- What the crates above may use.
+-- Lemmas for the crates above.
 pub use Rattle.zh_office.proofs.ContinuesLemmas.{risen_since}
 pub use Rattle.zh_office.proofs.FilmLemmas.{answered, broken, film_ends, starts}
 pub use Rattle.zh_office.proofs.LoggedLemmas.{acts_submitted, run_honest, run_is_logged, turn_honest, turn_submitted}

@@ -1,4 +1,4 @@
--- The answers of an office whose device does not fail, and which has numbers left: none is disturbed.
+-- The answers of an office whose device does not fail and which has numbers left: none is disturbed.
 use Rattle.std.proofs.Common.{◌≡◌, Bool, true, false, refl, sym, ap, ◌∙◌, List, Result, Ok, Err}
 use Rattle.zh_returns.specs.declared.row.Row.{Row}
 use Rattle.zh_returns.specs.Tally.{Tally}
@@ -55,14 +55,14 @@ plain_without_memory (Refused refusals.Memory) is = cc
 plain_without_memory (Refused refusal) is = cc
 plain_without_memory reply is = cc
 
--- an answer that is this one, where this one is calm and no memory ran out
+-- an answer is undisturbed if it equals an undisturbed one that does not report refused memory
 as_this : (reading : Result Line LineFault) (answer this : Answer) → answer ≡ this → is_disturbed this ≡ false → is_memory this ≡ false → IsUndisturbed reading answer
 as_this reading answer this is calm memory = record {
   calm = ap is_disturbed is ∙ calm;
   memory = λ wrong. let never : true ≡ false = sym wrong ∙ ap is_memory is ∙ memory in absurd (cc never);
 }
 
--- what is answered without a command
+-- the answers to requests that give no command
 answered_calm : (tally : Tally) (desk : Desk) → HoldsWithoutCommand tally (λ request answer. IsUndisturbed (Ok (record { desk = desk; request = request })) answer)
 answered_calm tally desk = record {
   plain = λ request reply is. as_this _ _ _ refl (plain_calm reply is) (plain_without_memory reply is);

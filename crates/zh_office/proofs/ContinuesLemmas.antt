@@ -1,4 +1,4 @@
--- What lines and texts leave of the history of a disk.
+-- The effect of lines and texts on the history of a disk.
 use Rattle.std.proofs.Common.{◌≡◌, ◌<◌, ◌≤◌, ◌-◌, ◌^◌, ◌∙◌, ⊎_elim, inl, inr, ℕ, Bool, true, false, List, [], ◌∷◌, IsTrue, refl, sym, ap, subst, arith}
 use Rattle.zh_disk.specs.History.{HasRisen}
 use Rattle.zh_returns.specs.declared.command.Command.{Command}
@@ -12,18 +12,18 @@ use Rattle.zh_office.specs.Runs.{Continues, Runs, its_ledger}
 use Rattle.zh_office.specs.Served.{AnswersAll, BreaksOff, Session}
 use Rattle.zh_office.proofs.LoggedLemmas.{run_submitted, turn_submitted}
 
--- a count that rose before
+-- a count that rose earlier has risen
 risen_before : (a b c : ℕ) → HasRisen a b → b ≤ c → HasRisen a c
 risen_before a b c risen le = ⊎_elim (λ (more : a < b). inl (omega arith)) (λ (end : 2 ^ 64 - 1 ≤ b). inr (omega arith)) risen
 
--- and one that rose since
+-- a count that rose later has risen, too
 pub risen_since : (a b c : ℕ) → a ≤ b → HasRisen b c → HasRisen a c
 risen_since a b c le risen = ⊎_elim (λ (more : b < c). inl (omega arith)) (λ (end : 2 ^ 64 - 1 ≤ c). inr end) risen
 
 no_break : {P : Type 0} (a b : Bool) → b ≡ a → a ≡ false → b ≡ true → P
 no_break a b same whole broken = let wrong : true ≡ false = sym broken ∙ same ∙ whole in absurd (cc)
 
--- a command that is stored breaks nothing
+-- storing a command breaks nothing
 stored_broken : (s : Ledger) (c : Command) → (stored s c).store.broken ≡ s.store.broken
 stored_broken s c = by_room (has_room s c) refl
   where
@@ -47,7 +47,7 @@ none_continues old new is =
       cause = no_break old.holder.store.broken new.holder.store.broken (ap (λ (o : OnDisk Ledger). o.holder.store.broken) is);
     }
 
--- one stretch after the other
+-- one stretch after another
 both_continue : (old mid new : OnDisk Ledger) → Continues old mid → Continues mid new → Continues old new
 both_continue old mid new first second = record {
   kept = λ honest. first.kept (second.kept honest);
@@ -72,7 +72,7 @@ run_continues : (old : OnDisk Office) (lines : List (List ℕ)) (out : List ℕ)
 run_continues old lines out log new run =
     let all = run_submitted old lines out log new run in submits_continue (its_ledger old) all.0 log (its_ledger new) all.1
 
--- lines that were answered, and a line whose answer is not written whole
+-- answered lines, and a line whose answer is incomplete
 pub answers_continue : (lines : List (List ℕ)) (old new : Session) → AnswersAll lines old new → Continues (its_ledger old.office) (its_ledger new.office)
 answers_continue lines old new all = run_continues old.office lines all.out all.log new.office all.run
 
@@ -83,7 +83,7 @@ breaks_continue lines old new breaks =
     (run_continues old.office breaks.answered breaks.out breaks.log breaks.mid breaks.run)
     (submits_continue (its_ledger breaks.mid) last.0 breaks.turn.log (its_ledger new.office) last.2)
 
--- and those that follow what was answered
+-- further lines after the answered ones
 pub answers_on : (before lines : List (List ℕ)) (old mid seen new : Session) → seen.office ≡ mid.office → AnswersAll before old mid
     → AnswersAll lines seen new → Continues (its_ledger old.office) (its_ledger new.office)
 answers_on before lines old mid seen new same first second =

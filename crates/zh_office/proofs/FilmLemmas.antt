@@ -18,7 +18,7 @@ use Rattle.zh_office.specs.Text.{ended_lines}
 use Rattle.std.proofs.KnownBytes.{Appends-nil, Appends-trans}
 use Rattle.zh_office.proofs.StepLemmas.{disk-append, texts-append}
 
--- two frames between which no step is done or answered
+-- two frames between which no step is carried out or answered
 pub rests : (first a b : Frame) (done rest : List Step) → Appends first.written a.written (texts done) → a.disk ≡ disk_after first.disk done → b.written ≡ a.written → b.disk ≡ a.disk
     → (a.kind ≢ Asks → b.left ≡ a.left) → (a.kind ≡ Asks → (input : List ℕ) × Consumes first.left a.left input × (map Some (ended_lines input) ≡ map (λ s. s.line) done))
     → ComesAfter (done ++ rest) first a b
@@ -35,13 +35,13 @@ rests first a b done rest written disk text still unread answered = record {
   answered = answered;
 }
 
--- what is in order up to now is so with the last frame
+-- a session that is in order is also in order with its last frame
 pub over : (first : Frame) (done : List Step) (s : Session) → IsOn first done s → (rest : List Step) → InOrder (ComesAfter (done ++ rest) first) first s.film (frame_at s)
 over first done s on rest =
     subst (λ (l : List Frame). InOrder (ComesAfter (done ++ rest) first) first l (frame_at s)) (sym on.noted)
     (rests first (frame_as on.kind s) (frame_at s) done rest on.written on.disk refl refl (λ is. refl) (λ asks. absurd (on.silent asks)), on.order rest)
 
--- and no read failed at all
+-- no read failed, so none but the last one did
 fails_last : (fs : List Frame) → NoneFailed fs → FailsLast fs
 fails_last [] none = tt
 fails_last (f ∷ fs) none = none.1
@@ -68,7 +68,7 @@ film_ends first done s on = record {
   ended = on.once;
 }
 
--- steps, and others after them
+-- no further steps, and further steps after others
 pub FilmsSteps-none : (s : Session) → FilmsSteps s [] s
 FilmsSteps-none s = record {
   unread = notes_none s.film;
@@ -89,7 +89,7 @@ FilmsFrontSteps-after old mid new xs ys a b = record {
       (subst (λ (steps : List Step). IsInOrder steps first new.film (frame_at new)) (append_assoc done xs ys) then.0, then.1);
 }
 
--- a step is done, and that is noted; then its answer is written, or a front of it
+-- a step is carried out and noted; then its answer, or a prefix of it, is written
 module _ (first : Frame) (done : List Step) (old mid new : Session) (x : Step) (on : IsOn first done old)
     (left : mid.left ≡ old.left) (unwritten : mid.written ≡ old.written) (disk : mid.office.history.trail ≡ x.disk)
     (left' : new.left ≡ mid.left) (disk' : new.office.history.trail ≡ x.disk) where
@@ -160,7 +160,7 @@ module _ (first : Frame) (done : List Step) (old mid new : Session) (x : Step) (
         subst NoneFailed (sym all) ((λ is. cc), on.calm),
       )
 
--- the same, whatever was done before it
+-- the same, whatever happened before
 pub films_answer : (old mid new : Session) (x : Step) → mid.left ≡ old.left → mid.written ≡ old.written → mid.office.history.trail ≡ x.disk → new.left ≡ mid.left
     → new.office.history.trail ≡ x.disk → mid.film ≡ frame_at mid ∷ old.film → new.film ≡ frame_at new ∷ mid.film → Appends mid.written new.written x.text
     → FilmsSteps old (x ∷ []) new
@@ -177,7 +177,7 @@ films_front old mid new x left unwritten disk left' disk' noted same front writt
   broken = λ first done on. broken first done old mid new x on left unwritten disk left' disk' noted same front written;
 }
 
--- a read is made, and noted
+-- a read is made and noted
 module _ (first : Frame) (done : List Step) (old new : Session) (kind : FrameKind) (input : List ℕ) (on : IsOn first done old)
     (taken : Consumes first.left old.left input) (lines : map Some (ended_lines input) ≡ map (λ s. s.line) done)
     (written : new.written ≡ old.written) (disk : new.office ≡ old.office) (unended : ¬ HasEnded old.film) where
@@ -199,7 +199,7 @@ module _ (first : Frame) (done : List Step) (old new : Session) (kind : FrameKin
   until_read : (rest : List Step) → InOrder (ComesAfter (done ++ rest) first) first (asking ∷ old.film) then
   until_read rest = (takes rest, subst (λ (l : List Frame). InOrder (ComesAfter (done ++ rest) first) first l asking) (sym on.noted) (asks rest, on.order rest))
 
-  -- the end is met once: of a read that is asked for, none before it gave no byte
+  -- the end is met once: no read before this one gave no byte
   asks_once : kind ≢ Asks → EndsOnce (then ∷ (asking ∷ old.film))
   asks_once silent = ((λ asks. absurd (silent asks)), ((λ asks. unended), on.once))
 
@@ -228,11 +228,11 @@ module _ (first : Frame) (done : List Step) (old new : Session) (kind : FrameKin
     ended = subst EndsOnce (sym noted) (asks_once (λ asks. let wrong : Failed ≡ Asks = sym failed ∙ asks in absurd cc));
   }
 
--- where no read failed, the result is not that one did
+-- if no read failed, and the result is not a failed read, they agree
 pub unfailed : (film : List Frame) (result : Result ℕ ServeFault) → NoneFailed film → (result ≡ Err faults.Read → ⊥) → HasFailedRead film ↔ IsErrOf result faults.Read
 unfailed [] result none other = ((λ no. absurd no), (λ is. absurd (other is)))
 unfailed (f ∷ fs) result none other = ((λ failed. absurd (none.0 failed)), (λ is. absurd (other is)))
 
--- nor where a write did
+-- the same if the result is a failed write
 pub unfailed_write : (film : List Frame) (result : Result ℕ ServeFault) → NoneFailed film → result ≡ Err faults.Write → HasFailedRead film ↔ IsErrOf result faults.Read
 unfailed_write film result none is = unfailed film result none (λ other. let wrong : Err faults.Write ≡ Err faults.Read = sym is ∙ other in absurd cc)

@@ -1,15 +1,15 @@
--- The reads that a film shows.
+-- The reads in a film.
 use Rattle.std.proofs.Common.{◌≡◌, inl, inr, ℕ, ◌+◌, ◌<◌, ◌==◌, false, List, ◌∷◌, refl, sym, ap, ◌∙◌, subst, arith, zero-add, ne_eqb}
 use Rattle.zh_film.specs.Frames.{Frame, HasEnded, reads_in, reads_noted}
 use Rattle.zh_film.specs.declared.kind.FrameKind.{FrameKind}
 use Rattle.zh_film.specs.declared.kind.FrameKind.TheVariants.{Asks, Between, Ended}
 use Rattle.zh_office.specs.Filmed.{NotesNoRead}
 
--- nothing is noted
+-- a film notes no more reads than itself
 pub notes_none : (film : List Frame) → NotesNoRead film film
 notes_none film = record { reads = refl; ended = ((λ is. is), (λ is. is)) }
 
--- and then more
+-- two stretches without a read
 pub notes_then : (old mid new : List Frame) → NotesNoRead old mid → NotesNoRead mid new → NotesNoRead old new
 notes_then old mid new a b = record {
   reads = b.reads ∙ a.reads;
@@ -42,6 +42,6 @@ no_end_read then asking old new between asks noted none ended = at (no_end_more 
     at (inl is) = let wrong : Asks ≡ Ended = sym asks ∙ is in absurd cc
     at (inr is) = none is
 
--- a read that gave bytes did not give none
+-- a read that gave bytes has a nonzero count
 pub gave_some : (count : ℕ) → 0 < count → (count == 0) ≡ false
 gave_some count some = ne_eqb count 0 (λ none. omega (arith, some, none))

@@ -1,4 +1,4 @@
--- One record more.
+-- The findings with one more record.
 use Rattle.std.proofs.Common.{◌≡◌, ◌<◌, ◌+◌, ◌||◌, ℕ, zero, suc, Some, slice_get, get_or, take, map, List, [], ◌∷◌, ◌++◌, length}
 use Rattle.std.proofs.Common.{refl, sym, ap, ◌∙◌, arith, Bool, append_assoc, if◌then◌else◌}
 use Rattle.std.specs.List.{list_any, range_with_len}
@@ -20,22 +20,22 @@ pub rows_push : (canton : Canton) (rows : List Row) (records : List Record) (fie
 rows_push canton rows [] fields = refl
 rows_push canton rows (first ∷ records) fields = rows_push canton (rows_after canton rows (row_in first)) records fields
 
--- the finding on a record of this number, after these rows
+-- the finding on a record with this number, after these rows
 abbrev pub finding_after : Tally → List Row → Record → ℕ → Finding
 finding_after tally rows fields number = record { number = number; fields = fields; judgement = judgement tally rows (row_in fields) }
 
--- the finding on a record after these rows and the rows kept of these records
+-- the finding on a record after these rows and the rows that are kept of these records
 abbrev pub next_finding : Tally → ℕ → List Row → List Record → Record → Finding
 next_finding tally number rows records fields =
     finding_after tally (rows_kept tally.canton rows records) fields (number + length records)
 
--- records after these rows, the first of which has this number
+-- the findings on records after these rows, where the first record has this number
 abbrev pub findings_from : Tally → ℕ → List Row → List Record → List Finding
 findings_from tally number rows [] = []
 findings_from tally number rows (fields ∷ others) =
     finding_after tally rows fields number ∷ findings_from tally (number + 1) (rows_after tally.canton rows (row_in fields)) others
 
--- at each place from this one on is the finding on a record after those before it
+-- from this place on, each finding is the one on its record after the records before it
 abbrev AreFound : Tally → ℕ → List Row → List Record → (ℕ → Finding) → ℕ → Type 0
 AreFound tally number rows records finding a =
     (k : ℕ) → k < length records
@@ -56,7 +56,7 @@ found_range tally number rows (first ∷ records) finding a each =
     ∙ ap (λ (l : List Finding). finding_after tally rows first number ∷ l)
     (found_range tally (number + 1) rows' records finding (a + 1) next)
 
--- the findings one after the other
+-- the findings, one after another
 pub found_in_turn : (tally : Tally) (others : List Record) → findings_on tally others ≡ findings_from tally 2 [] others
 found_in_turn tally others =
     found_range tally 2 [] others (finding_on tally others) 0 (λ k within. ap (finding_on tally others) (omega arith))

@@ -19,25 +19,25 @@ use Rattle.zh_office.proofs.FilmLemmas.{film_ends, read_failed, starts, was_read
 use Rattle.zh_office.proofs.FilmReadLemmas.{no_end_more, no_end_read}
 use Rattle.zh_office.proofs.StepLemmas.{lines-of, steps-append}
 
--- these lines are answered, and the film is in order
+-- these lines are answered and the film is in order
 pub record Filmed (lines : List (List ℕ)) (old now : Session) : Type 0 where
   pub answers : AnswersAll lines old now
   pub on : IsOn (frame_at old) (steps_in lines old now answers) now
 
--- after a read: what the input has left, and what the film shows
+-- the session after a read, with this input left and this film
 abbrev pub seen_by : Session → Option (List ℕ) → List Frame → Session
 seen_by now left film = record { written = now.written; office = now.office; left = left; film = film }
 
--- the film of that read
+-- the film after that read
 abbrev pub IsRead : Session → Option (List ℕ) → List Frame → FrameKind → Type 0
 IsRead now left film kind = film ≡ record { kind = kind; left = left; written = now.written; disk = now.office.history.trail }
     ∷ (record { kind = Asks; left = now.left; written = now.written; disk = now.office.history.trail } ∷ now.film)
 
--- the same answers after a read
+-- the same answers, seen after a read
 abbrev read_more : (lines : List (List ℕ)) (old now : Session) (left : Option (List ℕ)) (film : List Frame) → AnswersAll lines old now → AnswersAll lines old (seen_by now left film)
 read_more lines old now left film a = record { out = a.out; log = a.log; written = a.written; run = a.run }
 
--- others are answered after them
+-- further lines are answered after these
 Filmed-append : (old now new : Session) (lines more : List (List ℕ)) → Filmed lines old now → FilmsAll more now new → Filmed (lines ++ more) old new
 Filmed-append old now new lines more f a = record {
   answers = AnswersAll-append old now new lines more f.answers a.answers;
@@ -47,7 +47,7 @@ Filmed-append old now new lines more f a = record {
       (a.shown.on (frame_at old) (steps_in lines old now f.answers) f.on);
 }
 
--- what was read so far has been answered up to its last LF, and what counts of the rest is held
+-- the input is answered up to its last LF, and what counts of the rest is held
 pub record Serving (old now : Session) (line : List ℕ) (count : ℕ) : Type 0 where
   pub input : List ℕ
   pub read : Consumes old.left now.left input
@@ -66,16 +66,16 @@ Serving-start old film line none noted = record {
   unended = λ ended. no_end_more (frame_at old) [] refl (subst HasEnded noted ended);
 }
 
--- what is held has no end of a line
+-- the held text has no LF
 pub Serving-clean : (old now : Session) (line : List ℕ) (count : ℕ) → Serving old now line count → HasNoEnd line
 Serving-clean old now line count s =
     subst (λ l. HasNoEnd l) (sym s.held) (HasNoEnd-take 121 (unfinished s.input) (unfinished_has_no_end s.input))
 
--- the steps of what was read so far
+-- the steps of the answered input
 abbrev steps_so_far : (old now : Session) (line : List ℕ) (count : ℕ) → Serving old now line count → List Step
 steps_so_far old now line count s = steps_in (ended_lines s.input) old now s.films.answers
 
--- it did not fail
+-- the read did not fail
 abbrev pub HasGiven : FrameKind → Type 0
 HasGiven kind = (kind ≢ Asks) × (kind ≢ Failed)
 
@@ -113,7 +113,7 @@ more_rest input line block held =
     ap (λ l. truncated (unfinished (l ++ block))) held ∙ unfinished-truncated (truncated rest) rest block (HasNoEnd-take 121 rest clean) clean (truncated-truncated rest)
     ∙ ap truncated (sym (unfinished-append input block))
 
--- a block was read, and its lines are answered
+-- a block was read and its lines are answered
 pub Serving-more : (old now : Session) (left : Option (List ℕ)) (film : List Frame) (new : Session) (line block line' : List ℕ) (count more total : ℕ)
     → Serving old now line count → IsRead now left film Between → Consumes now.left new.left block → TakesBlock (seen_by now left film) line block new line' more
     → total ≡ min (count + more) (2 ^ 64 - 1) → Serving old new line' total
@@ -132,7 +132,7 @@ Serving-more old now left film new line block line' count more total s is read b
 pub regrouped : {X : Type 0} (a b : List X) (x : X) (c d : List X) → (a ++ (b ++ x ∷ c)) ++ d ≡ (a ++ b) ++ x ∷ (c ++ d)
 regrouped a b x c d = simp append_assoc
 
--- the lines before those of a run that breaks off
+-- a run that breaks off, preceded by answered lines
 abbrev pub BreaksOff-after : (old now new : Session) (front lines others all : List (List ℕ))
     → AnswersAll front old now → BreaksOff lines now new → all ≡ (front ++ lines) ++ others → BreaksOff all old new
 BreaksOff-after old now new front lines others all a b all_is = record {
@@ -153,7 +153,7 @@ BreaksOff-after old now new front lines others all a b all_is = record {
       (Appends-append old.written now.written new.written a.out (b.out ++ take b.front (text_after b.last b.answer new.office)) a.written b.written);
 }
 
--- what a run that breaks off leaves of an honest disk, the last line with it
+-- the effect on an honest disk of a run that breaks off, including the last line
 pub BreaksOff-kept : (old new : Session) (lines : List (List ℕ)) (b : BreaksOff lines old new) → KeepsLog old (followed_by b.log b.turn.log) new
 BreaksOff-kept old new lines b honest =
     let text = text_after b.last b.answer new.office in
@@ -173,7 +173,7 @@ breaks_filmed old now new front lines others all f b all_is =
     subst (λ (xs : List Step). IsInOrder xs (frame_at old) new.film (frame_at new)) (sym (ap (λ (xs : List Step). xs ++ last) steps ∙ append_assoc before then last))
     (b.shown.broken (frame_at old) before f.on).0
 
--- an answer within a block was not written whole
+-- an answer within a block is incomplete
 pub Serving-breaks : (old now : Session) (left : Option (List ℕ)) (film : List Frame) (new : Session) (line block : List ℕ) (count : ℕ)
     → Serving old now line count → IsRead now left film Between → Consumes now.left new.left block → FilmsFront (ended_lines (line ++ block)) (seen_by now left film) new
     → ServesFront old new
@@ -192,7 +192,7 @@ Serving-breaks old now left film new line block count s is read b =
       order = breaks_filmed old seen new (ended_lines s.input) (ended_lines (line ++ block)) [] (ended_lines (s.input ++ block)) f b all;
     }
 
--- the last line of the input by what is held of it
+-- the last line of the input, from what is held of it
 last_held : (input line : List ℕ) → line ≡ truncated (unfinished input) → last_line line ≡ last_line (unfinished input)
 last_held input line held = ap last_line held ∙ last_line-truncated (truncated (unfinished input)) (unfinished input) (truncated-truncated (unfinished input))
 
@@ -207,7 +207,7 @@ Serving-breaks_calm old now left film new line lines count s kind given is b =
     let f = Serving-seen old now left film line count s kind given is in
     (b.shown.broken (frame_at old) (steps_in (ended_lines s.input) old (seen_by now left film) f.answers) f.on).1
 
--- the answer to the last line was not written whole
+-- the answer to the last line is incomplete
 pub Serving-last_breaks : (old now : Session) (left : Option (List ℕ)) (film : List Frame) (new : Session) (line : List ℕ) (count : ℕ)
     → Serving old now line count → IsRead now left film Ended → Consumes now.left new.left [] → IsAtEnd new.left → FilmsFront (last_line line) (seen_by now left film) new
     → ServesFront old new
@@ -237,7 +237,7 @@ pub Serving-last_calm : (old now : Session) (left : Option (List ℕ)) (film : L
     → Serving old now line count → IsRead now left film Ended → FilmsAll (last_line line) (seen_by now left film) new → NoneFailed new.film
 Serving-last_calm old now left film new line count s is then = (Serving-last old now left film new line count s is then).on.calm
 
--- the turns ended before the input
+-- the allowed reads ran out before the input did
 pub Serving-stops : (old now : Session) (line : List ℕ) (count : ℕ) → Serving old now line count → ServesEnded old now
 Serving-stops old now line count s = record {
   input = s.input;
@@ -265,7 +265,7 @@ Serving-fails old now left film line count s is read =
           (lines-of old.office (ended_lines s.input) s.films.answers.out s.films.answers.log now.office s.films.answers.run) refl refl s.unended refl is;
     }
 
--- the input ended, and its last line is answered
+-- the input ended and its last line is answered
 pub Serving-ends : (old now : Session) (left : Option (List ℕ)) (film : List Frame) (new : Session) (line : List ℕ) (count more total : ℕ)
     → Serving old now line count → IsRead now left film Ended → Consumes now.left new.left [] → IsAtEnd new.left
     → (more ≡ length (last_line line)) × FilmsAll (last_line line) (seen_by now left film) new → total ≡ min (count + more) (2 ^ 64 - 1)
@@ -284,7 +284,7 @@ Serving-ends old now left film new line count more total s is read at_end (more_
       order = film_ends (frame_at old) (steps_in (lines_of s.input) old new all.answers) new all.on;
     }
 
--- what keeps its bytes consumes none
+-- keeping all bytes means consuming none
 pub Consumes-kept : (a b : Option (List ℕ)) → Keeps a b → Consumes a b []
 Consumes-kept None b h = tt
 Consumes-kept (Some a) None h = absurd h

@@ -1,4 +1,4 @@
--- Records judged one after the other.
+-- Records judged one after another.
 use Rattle.std.proofs.Common.{◌≡◌, ◌≤◌, ◌+◌, ℕ, List, [], ◌∷◌, ◌++◌, length, Option, refl, sym, ap, ◌∙◌, subst, arith}
 use Rattle.std.specs.Io.KnownBytes.{Appends}
 use Rattle.std.proofs.lemmas.List.{length_push}
@@ -24,7 +24,7 @@ use Rattle.zh_office.specs.declared.judging.Progress.{Progress}
 use Rattle.zh_office.proofs.FindingLemmas.{begun_push, counts_push, findings_push, lines_push, next_finding, rows_push}
 use Rattle.zh_office.proofs.FrontLemmas.{all_written, front_after}
 
--- a reader that gives no record waits for none, and breaks off no line
+-- a fault of the reader can occur after any number of records, and needs no unwritten byte
 pub reader_early : (error : ReadFault) (fault : JudgementFault)
     → (error ≡ reading.Memory → fault ≡ faults.Memory) × (error ≡ reading.Read → fault ≡ faults.Read)
     → (bytes_left fault ≡ 0) × (records_judged fault ≡ 0)
@@ -35,22 +35,22 @@ reader_early reading.Read fault is = rw (is.1 refl) (refl, refl)
 abbrev pub other_lines : Tally → List Record → List ℕ
 other_lines tally others = finding_lines (findings_on tally others)
 
--- a reader gave this record of a text, its first, and no other
+-- the reader gave this first record of a text and no other
 abbrev pub GaveFirst : {R : Type 0} → (R → Option (List ℕ)) → Record → Reader R → List ℕ → Type 0
 GaveFirst remaining first reader bytes = HasRead remaining (front_of bytes) (first ∷ []) reader
 
--- it gives this record next
+-- the reader gives this record next
 abbrev pub GivesNext : {R : Type 0} → (R → Option (List ℕ)) → Record → Reader R → Reader R → Type 0
 GivesNext remaining fields now next =
     (bytes : List ℕ) (given : List Record) → HasRead remaining (front_of bytes) given now
     → HasRead remaining (front_of bytes) (given ++ fields ∷ []) next
 
--- or none any more
+-- the reader gives no further record
 abbrev pub GivesNone : {R : Type 0} → (R → Option (List ℕ)) → Reader R → Type 0
 GivesNone remaining now =
     (bytes : List ℕ) (given : List Record) → HasRead remaining (front_of bytes) given now → AreAll (front_of bytes) given
 
--- some records after the first are judged, and the next one has this number
+-- some records after the first are judged; the next one has this number
 pub record HasJudged {R : Type 0} (remaining : R → Option (List ℕ)) (tally : Tally) (first : Record) (old new : Reader R)
     (w w' : Option (List ℕ)) (number : ℕ) (progress : Progress) : Type 0 where
   pub others : List Record
@@ -66,7 +66,7 @@ module _ {R : Type 0} (remaining : R → Option (List ℕ)) (tally : Tally) (fir
 
   module _ (now next : Reader R) (w' w'' : Option (List ℕ)) (number : ℕ) (progress : Progress) (fields : Record)
       (has : HasJudged remaining tally first old now w w' number progress) (gives : GivesNext remaining fields now next) where
-    -- its judgement, and its line
+    -- its judgement and its line
     abbrev its : Judgement
     its = judgement tally progress.rows (row_in fields)
 
@@ -85,7 +85,7 @@ module _ {R : Type 0} (remaining : R → Option (List ℕ)) (tally : Tally) (fir
         ∙ sym (lines_push (findings_on tally has.others) (next_finding tally 2 [] has.others fields))
         ∙ ap finding_lines (sym (findings_push tally has.others fields))
 
-    -- one record more
+    -- one more record is judged
     pub judged_more : (progress' : Progress) → progress'.rows ≡ rows_after tally.canton progress.rows (row_in fields)
         → progress'.counts ≡ forecast_with progress.counts its → Appends w' w'' its_line
         → HasJudged remaining tally first old next w w'' (number + 1) progress'
@@ -104,7 +104,7 @@ module _ {R : Type 0} (remaining : R → Option (List ℕ)) (tally : Tally) (fir
       };
     }
 
-    -- the writer fails under it
+    -- the writer fails in this line
     pub broken_at : (fault : JudgementFault) → BreaksOffLine fault w' w'' its_line
         → AreBrokenOff tally first (GaveFirst remaining first old) (WritesUpTo (bytes_left fault) w w'') (records_judged fault)
     broken_at fault (early, front) = record {
@@ -119,7 +119,7 @@ module _ {R : Type 0} (remaining : R → Option (List ℕ)) (tally : Tally) (fir
 
   module _ (now : Reader R) (w' : Option (List ℕ)) (number : ℕ) (progress : Progress)
       (has : HasJudged remaining tally first old now w w' number progress) where
-    -- no record is given any more, or no more are taken
+    -- the reader gives no further record, or no more records are taken
     pub broken_between : (left least : ℕ) → left ≡ 0 → least + 1 ≤ number
         → AreBrokenOff tally first (GaveFirst remaining first old) (WritesUpTo left w w') least
     broken_between left least none few = record {
@@ -138,7 +138,7 @@ module _ {R : Type 0} (remaining : R → Option (List ℕ)) (tally : Tally) (fir
       after = has.after;
     }
 
--- no more are refused than there are
+-- at most as many records are refused as there are
 pub forecast_within : (counts : Forecast) (judgement : Judgement) → counts.refused ≤ counts.records → (forecast_with counts judgement).refused ≤ (forecast_with counts judgement).records
 forecast_within counts Stores within = omega arith
 forecast_within counts Same within = omega arith

@@ -1,4 +1,4 @@
--- What the loading of a text leaves.
+-- The effect of loading a text.
 use Rattle.std.proofs.Common.{◌≡◌, ◌≤◌, ◌∙◌, ℕ, Bool, true, false, List, [], ◌∷◌, length, Option, Result, Ok, Err, refl, sym, subst, arith}
 use Rattle.zh_returns.specs.declared.command.Command.TheVariants as commands
 use Rattle.zh_returns.specs.declared.row.Row.{Row}
@@ -20,7 +20,7 @@ use Rattle.zh_office.specs.Runs.{its_ledger}
 abbrev StoresWhere : Bool → OnDisk Office → Result (List Row) LoadFault → Answer → Log → OnDisk Office → Type 0
 StoresWhere broken old loaded answer log new = Acts (its_ledger old) (command_loaded broken loaded) (λ a. a ≡ answers.Reply (load_reply broken loaded)) answer log (its_ledger new)
 
--- after a fault of the device
+-- the device had failed before
 pub broken_turn : (old : OnDisk Office) (text : Option (List ℕ)) (failed : Bool) → old.holder.ledger.store.broken ≡ true → LoadTurn old text failed (Refused refusals.ReopenDisk) old
 broken_turn old text failed broken = record {
   loaded = Err faults.Csv;
@@ -30,7 +30,7 @@ broken_turn old text failed broken = record {
   held = refl;
 }
 
--- a text that is refused
+-- the text is refused
 pub refused_turn : (old : OnDisk Office) (text : Option (List ℕ)) (failed : Bool) (fault : LoadFault) → old.holder.ledger.store.broken ≡ false
     → LoadsFrom old.holder.ledger.tally.canton text failed (Err fault) → LoadTurn old text failed (Refused (load_refusal fault)) old
 refused_turn old text failed fault whole loads = record {
@@ -41,7 +41,7 @@ refused_turn old text failed fault whole loads = record {
   held = refl;
 }
 
--- a text without rows
+-- the text has no rows
 pub empty_turn : (old : OnDisk Office) (text : Option (List ℕ)) (failed : Bool) (rows : List Row) → old.holder.ledger.store.broken ≡ false → length rows ≡ 0
     → LoadsFrom old.holder.ledger.tally.canton text failed (Ok rows) → LoadTurn old text failed Same old
 empty_turn old text failed [] whole none loads = record {
@@ -53,7 +53,7 @@ empty_turn old text failed [] whole none loads = record {
 }
 empty_turn old text failed (row ∷ rows) whole none loads = absurd (omega arith)
 
--- rows that are submitted
+-- the rows are submitted
 pub submitted_turn : (old new : OnDisk Office) (text : Option (List ℕ)) (failed : Bool) (rows : List Row) (reply : Reply) → old.holder.ledger.store.broken ≡ false → 1 ≤ length rows
     → new.holder.held ≡ old.holder.held → LoadsFrom old.holder.ledger.tally.canton text failed (Ok rows)
     → ReportsOutcome (its_ledger old) (commands.Batch 0 rows) (answers.Reply reply) (its_ledger new) → LoadTurn old text failed reply new

@@ -1,4 +1,4 @@
--- What is found of the records that a loading reads.
+-- The findings on the records that a loading reads.
 use Rattle.std.proofs.Common.{◌≡◌, ◌≢◌, ◌||◌, ◌⊎◌, inl, inr, ℕ, ◌+◌, List, [], ◌∷◌, ◌++◌, map, Bool, true}
 use Rattle.std.proofs.Common.{None, Ok, Err, refl, sym, ap, ◌∙◌, subst, append_assoc}
 use Rattle.std.specs.List.{list_any}
@@ -39,11 +39,11 @@ module _ (tally : Tally) (before : List Row) (row : Row) (others : List Row) (ar
   are_next : AreLoaded tally.canton ((before ++ row ∷ []) ++ others)
   are_next = subst (AreLoaded tally.canton) (sym (append_assoc before (row ∷ []) others)) are
 
--- whether one of the findings on records after these rows passes a test
+-- whether a finding on one of these records, after these rows, passes the test
 abbrev any_judged : (Judgement → Bool) → Tally → ℕ → List Row → List Record → Bool
 any_judged p tally number before records = list_any (λ (f : Finding). p f.judgement) (findings_from tally number before records)
 
--- a test of the findings on such rows is one of the verdicts on them
+-- a test of the findings on such rows is a test of the verdicts on them
 any_alike : (p : Judgement → Bool) (q : Verdict → Bool) → ((v : Verdict) → p (by_verdict v) ≡ q v)
     → (tally : Tally) (number : ℕ) (before rows : List Row) → AreLoaded tally.canton (before ++ rows)
     → any_judged p tally number before (map fields rows) ≡ list_any q (map (judge_row tally) rows)
@@ -74,7 +74,7 @@ last_refused : (tally : Tally) (rows : List Row) (last : Record) (fault : LoadFa
 last_refused tally rows last fault (inl unread) = rw (row_in-unread last fault unread) refl
 last_refused tally rows last fault (inr (row, readable, is, refused)) = rw (is, row_in-fields row readable, refused) refl
 
--- the records of a text from these rows on, up to one and whatever follows it
+-- the records of a text from these rows on, up to this record, and the rest
 abbrev up_to : List Row → Record → List Record → List Record
 up_to rows last rest = (map fields rows ++ last ∷ []) ++ rest
 
@@ -94,15 +94,15 @@ stop_refused tally number before (row ∷ rows) last rest are refused =
     let here : Bool = refuses (judgement tally before (row_in (fields row))) in
     ap (λ (b : Bool). here || b) grows ∙ or-true here
 
--- the names are no finding
+-- there is no finding on the column names
 after_names : (tally : Tally) (others : List Record) → findings tally (names ∷ others) ≡ findings_from tally 2 [] others
 after_names tally others = ap (λ (l : List Finding). l ++ findings_on tally others) (names_found names refl) ∙ found_in_turn tally others
 
--- a loading of a text with these records finds one that is refused
+-- a record of the text is refused
 abbrev pub FindsRefused : Tally → List Record → Type 0
 FindsRefused tally records = any_refused (findings tally records) ≡ true
 
--- a text that a loading refuses
+-- the loading refuses the text
 unnamed_refused : (tally : Tally) (text : List ℕ) (records : List Record) → AreAll text records → HasNoNames text → FindsRefused tally records
 unnamed_refused tally text records all (inl none) = rw (all_once text records [] all none) refl
 unnamed_refused tally text records all (inr (first, begins, other)) =
@@ -125,7 +125,7 @@ fault_refused tally text records fault memory read all refused = elim (refused m
   | inr stops ↦ stopped_refused tally text records fault all stops
 ]
 
--- a text that a loading reads
+-- the loading reads the text
 module _ (tally : Tally) (text : List ℕ) (records : List Record) (rows : List Row) (all : AreAll text records)
     (loads : Loads tally.canton text (Ok rows)) where
   records_are : records ≡ names ∷ map fields rows

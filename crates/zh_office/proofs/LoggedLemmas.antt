@@ -1,4 +1,4 @@
--- What lines and texts do to the ledger: each submits one command, or none.
+-- The effect of lines and texts on the ledger: each submits one command or none.
 use Rattle.std.proofs.Common.{ℕ, List, [], ◌∷◌, ◌++◌, sym, ap, ◌∙◌, subst, arith, IsTrue, Option, Some, None}
 use Rattle.zh_returns.specs.declared.command.Command.{Command}
 use Rattle.zh_ledger.specs.Ledger.{Ledger}
@@ -11,7 +11,7 @@ use Rattle.zh_office.specs.Office.{Office, MayAnswer, command_read}
 use Rattle.zh_office.specs.Runs.{Runs, Turn, its_ledger}
 use Rattle.zh_office.proofs.RunLemmas.{followed_by-assoc, nothing-followed_by}
 
--- commands, and then others
+-- commands, then further commands
 Submits-append : (old mid new : OnDisk Ledger) (xs ys : List (Command × Outcome)) (log log' : Log)
     → Submits old xs log mid → Submits mid ys log' new → Submits old (xs ++ ys) (followed_by log log') new
 Submits-append old mid new [] ys log log' (none, same) run =
@@ -25,7 +25,7 @@ Submits-append old mid new (x ∷ xs) ys log log' (next, others, by, is, run) re
   Submits-append next mid new xs ys others log' run rest,
 )
 
--- what is done in answer, as commands
+-- the commands that are submitted for an answer
 pub acts_submitted : (old : OnDisk Ledger) (command : Option Command) (May : Answer → Type 0) (answer : Answer) (log : Log) (new : OnDisk Ledger)
     → Acts old command May answer log new → SubmitsOneOrNone old log new
 acts_submitted old None May answer log new (may, none, same) = ([], omega arith, (none, same))
@@ -40,7 +40,7 @@ pub turn_submitted : (old : OnDisk Office) (line : List ℕ) (answer : Answer) (
 turn_submitted old line answer new turn =
     acts_submitted (its_ledger old) (command_read old.holder turn.reading) (MayAnswer old.holder turn.reading) answer turn.log (its_ledger new) turn.acts
 
--- line after line
+-- the commands of a run of lines
 pub run_submitted : (old : OnDisk Office) (lines : List (List ℕ)) (out : List ℕ) (log : Log) (new : OnDisk Office)
     → Runs old lines out log new → (commands : List (Command × Outcome)) × Submits (its_ledger old) commands log (its_ledger new)
 run_submitted old [] out log new run = ([], (run.logs, ap its_ledger run.same))
@@ -64,7 +64,7 @@ pub run_honest : (old : OnDisk Office) (lines : List (List ℕ)) (out : List ℕ
 run_honest old lines out log new honest run =
     let all = run_submitted old lines out log new run in submits_honest (its_ledger old) all.0 log (its_ledger new) all.1 honest
 
--- and so after a turn
+-- the same for a turn
 pub turn_honest : (old : OnDisk Office) (line : List ℕ) (answer : Answer) (new : OnDisk Office)
     → IsTrue new.history.honest → Turn old line answer new → IsTrue old.history.honest
 turn_honest old line answer new honest turn =

@@ -1,4 +1,4 @@
--- A night of an office: each event submits one command, or none.
+-- A night of an office: each event submits one command or none.
 use Rattle.std.proofs.Common.{◌≡◌, sym, subst}
 use Rattle.zh_ledger.specs.Submissions.{Log}
 use Rattle.zh_ledger.proofs.CallerLemmas.{SubmitsOneOrNone, Serves, night_law}

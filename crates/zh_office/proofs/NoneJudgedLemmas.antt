@@ -1,4 +1,4 @@
--- What the crates above may use.
+-- Lemmas for the crates above.
 use Rattle.std.proofs.Common.{List, ℕ, [], Option, refl, inl, arith}
 use Rattle.csv.specs.Reading.{Reached, strip_bom}
 use Rattle.csv.specs.declared.parser.State.TheVariants as states
@@ -9,7 +9,7 @@ use Rattle.zh_office.specs.Judged.{IsBrokenOff}
 use Rattle.zh_office.specs.JudgementText.{finding_lines}
 use Rattle.zh_office.proofs.FrontLemmas.{none_written}
 
--- a text of which no record was judged
+-- no record of a text was judged
 pub nothing_judged : (tally : Tally) (IsText : List ℕ → Type 0) (w : Option (List ℕ)) → IsBrokenOff tally IsText w w 0 0
 unfolding Reached
 nothing_judged tally IsText w = record {

@@ -1,4 +1,4 @@
--- The reads of a run, counted.
+-- Counting the reads of a run.
 use Rattle.std.proofs.Common.{◌≡◌, ℕ, ◌+◌, ◌<◌, ◌≤◌, List, [], ◌++◌, take, length, subst, arith, Option, length-append}
 use Rattle.std.proofs.lemmas.List.{length-take}
 use Rattle.std.specs.Io.KnownBytes.{Consumes}
@@ -9,7 +9,7 @@ use Rattle.zh_office.proofs.BlockLemmas.{Consumes-append, Consumes-none}
 pub TakesReads-start : (reader : Option (List ℕ)) → TakesReads reader reader 0
 TakesReads-start reader = record { bytes = []; taken = Consumes-none reader; least = omega arith; most = omega arith }
 
--- a read took the front of a block
+-- a read took a prefix of a block
 pub TakesReads-more : (first reader reader' : Option (List ℕ)) (block : List ℕ) (len reads : ℕ)
     → TakesReads first reader reads → Consumes reader reader' (take len block) → 0 < len → len ≤ length block → length block ≤ 8192
     → TakesReads first reader' (reads + 1)

@@ -1,4 +1,4 @@
--- A record is read in one way.
+-- Reading a record as a row is unambiguous.
 use Rattle.std.proofs.Common.{◌≡◌, ◌≢◌, ◌<◌, ◌^◌, ◌&&◌, ◌∙◌, ℕ, [], ◌∷◌, Result, Ok, Err, refl, sym, ap, arith, true, false, Bool}
 use Rattle.std.proofs.Common.{decimal, if◌then◌else◌}
 use Rattle.std.specs.Cmp.Lexicographic.{pointwise}
@@ -23,7 +23,7 @@ use Rattle.zh_office.specs.Rows.{row_by_digits, is_readable, row_in, has_names}
 use Rattle.zh_office.specs.JudgementText.{line_by, finding_lines}
 use Rattle.zh_office.specs.declared.judgement.Judgement.TheVariants.{Refused}
 
--- the digits of a numeral say its number
+-- the value of the digits of a numeral is its number
 number_said : (n : ℕ) → n < 2 ^ 32 → digits_value 10 (decimal n) ≡ n
 number_said n small = digits_value-decimal (numerals_by_value (AllDigits 10) tells_digits) n (omega arith)
 
@@ -35,7 +35,7 @@ row_said row is =
     let v = number_said row.votes is.votes in
     λ i. record { municipality = m i; list = l i; number = n i; votes = v i }
 
--- the test of a row that can be read
+-- a row that can be read passes the test
 passes : (row : Row) → IsReadable row → is_readable row ≡ true
 passes row is = grind (arith, nat_tests, is.municipality, is.list, is.number.0, is.number.1, is.votes)
 
@@ -54,14 +54,14 @@ same_fields all other is = (slice_eq-Decides bytes_eq-Decides all other (pointwi
 fields_same : (all other : Record) → pointwise bytes_eq all other ≡ true → all ≡ other
 fields_same all other test = (slice_eq-Decides bytes_eq-Decides all other (pointwise bytes_eq all other) refl).0 test
 
--- whether a record is that of a row that can be read
+-- whether a record is the record of this row, which can be read
 abbrev is_of_row : Record → Row → Bool
 is_of_row all row = is_readable row && pointwise bytes_eq all (fields row)
 
 of_its_row : (row : Row) → IsReadable row → is_of_row (fields row) row ≡ true
 of_its_row row is = rw (passes row is, same_fields (fields row) (fields row) refl) refl
 
--- what is read of a record whose digits say a row, which it is the record of or not
+-- the reading of a record whose digits spell this row, by whether it is the record of the row
 abbrev read_as : Record → Row → Bool → Result Row LoadFault
 read_as all row is = if is then Ok row else if may_be_row all then Err faults.Syntax else Err faults.Csv
 
@@ -71,7 +71,7 @@ row_in-fields row is =
     let its : read_as (fields row) row (is_of_row (fields row) row) ≡ Ok row = ap (read_as (fields row) row) (of_its_row row is) in
     ap (λ (said : Row). read_as (fields row) said (is_of_row (fields row) said)) (row_said row is) ∙ its
 
--- a record that is no row is read as none
+-- a record that belongs to no row does not pass the test for one
 of_no_row : (all : Record) → ((row : Row) → IsReadable row → all ≢ fields row) → is_of_row all (row_by_digits all) ≡ false
 of_no_row all none = by (is_of_row all (row_by_digits all)) refl
   where
@@ -93,11 +93,11 @@ row_in-unread all faults.Csv other = read_other all other
 row_in-unread all faults.Syntax (may, none) = rw (of_no_row all none, may) refl
 row_in-unread all fault none = absurd none
 
--- the names are where the test finds them, and nowhere else
+-- the test finds the column names and nothing else
 pub names_found : (all : Record) → all ≡ names → first_findings all ≡ []
 names_found all is = rw (same_fields all names is) refl
 
--- the finding where they are missing
+-- the finding on a first record that does not consist of the column names
 abbrev pub bad_first : Record → Finding
 bad_first all = record { number = 1; fields = all; judgement = Refused refusals.Csv }
 
@@ -108,6 +108,6 @@ names_missed all other = by (bad_first all) (has_names all) refl
     by finding true found = absurd (other (fields_same all names found))
     by finding false missed = refl
 
--- its line
+-- the line of that finding
 pub missed_line : (all : Record) → (all ≡ names → ⊥) → finding_lines (first_findings all) ≡ line_by 1 all (Refused refusals.Csv)
 missed_line all other = ap finding_lines (names_missed all other) ∙ append-nil (line_by 1 all (Refused refusals.Csv))

@@ -1,4 +1,4 @@
--- Runs in parts.
+-- Joining runs.
 use Rattle.std.proofs.Common.{◌≡◌, ℕ, List, [], ◌∷◌, ◌++◌, refl, sym, ap, ◌∙◌, subst, arith, append_assoc}
 use Rattle.std.proofs.lemmas.List.{append-nil}
 use Rattle.zh_ledger.specs.Submissions.{OnDisk, Log, nothing, followed_by}
@@ -6,7 +6,7 @@ use Rattle.zh_office.specs.declared.answer.Answer.{Answer}
 use Rattle.zh_office.specs.Office.{Office}
 use Rattle.zh_office.specs.Runs.{Runs, Turn, text_after}
 
--- logs of the same commands and number
+-- logs with the same commands and the same number are equal
 Log_is : (a b : Log) → a.accepted ≡ b.accepted → a.acknowledged ≡ b.acknowledged → a ≡ b
 Log_is a b accepted acknowledged = rw accepted (rw acknowledged refl)
 
@@ -20,13 +20,13 @@ pub followed_by-assoc : (a b c : Log) → followed_by (followed_by a b) c ≡ fo
 followed_by-assoc a b c =
     Log_is (followed_by (followed_by a b) c) (followed_by a (followed_by b c)) (append_assoc a.accepted b.accepted c.accepted) (omega arith)
 
--- a run that is known by other names
+-- a run under equal names
 abbrev pub Runs-of : (old mid new : OnDisk Office) (lines : List (List ℕ)) (out out' : List ℕ) (log log' : Log) → mid ≡ old → out ≡ out' → log ≡ log'
     → Runs mid lines out log new → Runs old lines out' log' new
 Runs-of old mid new lines out out' log log' same outs logs run =
     subst (λ (l : Log). Runs old lines out' l new) logs (subst (λ (t : List ℕ). Runs old lines t log new) outs (subst (λ (o : OnDisk Office). Runs o lines out log new) same run))
 
--- a run and one that goes on from its end are a run
+-- a run and another that continues from its end form one run
 abbrev pub Runs-append : (old mid new : OnDisk Office) (lines more : List (List ℕ)) (out next : List ℕ) (log log' : Log)
     → Runs old lines out log mid → Runs mid more next log' new → Runs old (lines ++ more) (out ++ next) (followed_by log log') new
 Runs-append old mid new [] more out next log log' run next_run =
@@ -43,7 +43,7 @@ Runs-append old mid new (line ∷ lines) more out next log log' run next_run = r
   logs = ap (λ l. followed_by l log') run.logs ∙ followed_by-assoc run.turn.log run.others log';
 }
 
--- a run over no line
+-- a run over no lines
 abbrev pub Runs-none : (old : OnDisk Office) → Runs old [] [] nothing old
 Runs-none old = record { wrote = refl; logs = refl; same = refl }
 

@@ -8,7 +8,7 @@ use Rattle.zh_office.specs.Sheets.{AreClosed, MayAnswerSheet, MayGive, sheet_ref
 use Rattle.zh_office.specs.declared.answer.Answer.{Answer}
 use Rattle.zh_office.specs.declared.answer.Answer.TheVariants as answers
 
--- what the totals may be answered where they have no sheet may be answered to its line
+-- if a line can be answered with a fault of its sheet, it can be answered with whatever the totals allow
 pub answered_instead : (tally : Tally) (is_final : Bool) (fault : SheetFault) (answer : Answer)
     → MayAnswerSheet tally is_final (answers.Reply (Refused (sheet_refusal fault))) → MayGive tally is_final answer
     → MayAnswerSheet tally is_final answer
@@ -16,7 +16,7 @@ answered_instead tally false fault answer may other = other
 answered_instead tally true faults.Memory answer may other = ⊎_elim (λ first. absurd (cc first.2)) (λ closed. inr (closed.0, other)) may
 answered_instead tally true (faults.Refused refusal) answer may other = ⊎_elim (λ first. absurd (cc first.2)) (λ closed. inr (closed.0, other)) may
 
--- a sheet that the totals may be answered with may be answered to its line; to `final` only where every municipality is closed
+-- what the totals allow is a possible answer to `sheet`, and to `final` if every municipality is closed
 pub sheet_given : (tally : Tally) (is_final : Bool) (answer : Answer) → (is_final ≡ true → AreClosed tally) → MayGive tally is_final answer
     → MayAnswerSheet tally is_final answer
 sheet_given tally false answer closed may = may

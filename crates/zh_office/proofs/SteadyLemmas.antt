@@ -1,4 +1,4 @@
--- A ledger whose disk does not fail: its numbers do not fall, and it does not break.
+-- A ledger whose disk does not fail does not break, and its numbers do not fall.
 use Rattle.std.proofs.Common.{◌≡◌, ◌≤◌, ◌<◌, ◌+◌, ◌-◌, ◌^◌, ◌==◌, ◌&&◌, ◌||◌, ℕ, Bool, true, false, refl, sym, ap, ◌∙◌, subst, ⊎_elim, arith, Option, Some, None}
 use Rattle.std.specs.Prelude.{not}
 use Rattle.std.proofs.lemmas.Bool.{ne_eqb}
@@ -20,11 +20,11 @@ use Rattle.zh_ledger.proofs.CallerLemmas.{ready_already, ready_switched}
 use Rattle.zh_office.specs.declared.answer.Answer.{Answer}
 use Rattle.zh_office.specs.Requests.{Acts}
 
--- a count of failures that stays below its end has not risen
+-- a count of failures that is below its maximum and unchanged has not risen
 pub not_risen : (a b : ℕ) → b ≡ a → b < 2 ^ 64 - 1 → HasRisen a b → ⊥
 not_risen a b same below risen = ⊎_elim (λ (more : a < b). omega arith) (λ (end : 2 ^ 64 - 1 ≤ b). omega arith) risen
 
--- three counts that do not fall, of which the last is the first again
+-- three counts that do not fall, the last of which equals the first
 pub all_same : (a b c : ℕ) → a ≤ b → b ≤ c → c ≡ a → (b ≡ a) × (c ≡ b)
 all_same a b c low high same = (omega arith, omega arith)
 
@@ -37,7 +37,7 @@ below a b n low less = omega arith
 pub no_less : (a b c : ℕ) → a ≤ b → b ≤ c → a ≤ c
 no_less a b c low high = omega arith
 
--- the ledger is whole, its format is the same, and neither its commands nor its generation became fewer
+-- the ledger is not broken, its format is unchanged, and neither its count of commands nor its generation has fallen
 pub record Steady (old new : Ledger) : Type 0 where
   pub whole : new.store.broken ≡ false
   pub format : new.format ≡ old.format
@@ -75,17 +75,17 @@ stored_steady s c whole = by (has_room s c) refl
         let generation : (stored s c).store.generation ≡ s.store.generation + 1 = ap (λ (l : Ledger). l.store.generation) (ready_switched s c none) in
         record { whole = broken ∙ whole; format = refl; accepted = step_counts s.tally c; generation = omega (arith, generation) }
 
--- the outcome of a device that failed before
+-- whether the device had failed before
 abbrev pub finds_broken : Outcome → Bool
 finds_broken outcomes.Broken = true
 finds_broken outcome = false
 
--- the outcome of numbers that are used up
+-- whether the numbers are used up
 abbrev pub spends : Outcome → Bool
 spends outcomes.Spent = true
 spends outcome = false
 
--- a whole ledger
+-- a ledger that is not broken
 module _ (l : Ledger) (c : Command) where
   stored_whole : (spent : Bool) (outcome : Outcome) → MayStoreWhere spent l.tally.accepted outcome → finds_broken outcome ≡ false
   stored_whole true outcome is = ap finds_broken is
@@ -113,7 +113,7 @@ module _ (l : Ledger) (c : Command) where
   never_spends true outcome left is = ap spends is
   never_spends false outcome left is = follows_spends (judge l.tally c) outcome left is
 
--- a disk that does not fail
+-- the disk does not fail
 pub never_fails : (old : OnDisk Ledger) (c : Command) (outcome : Outcome) (new : OnDisk Ledger) → Submission old c outcome new
     → (HasRisen old.history.failures new.history.failures → ⊥) → fails outcome ≡ false
 never_fails old c outcome new by calm = at (fails outcome) (λ is. calm (by.call.counts.rose is))
@@ -122,7 +122,7 @@ never_fails old c outcome new by calm = at (fails outcome) (λ is. calm (by.call
     at true never = absurd (never refl)
     at false never = refl
 
--- numbers below their end
+-- the numbers are below their maximum
 unspent : (a g n : ℕ) (room : Bool) → a < n → g < n → ((a == n) || (not room && (g == n))) ≡ false
 unspent a g n true few low = rw (ne_eqb a n (λ same. omega arith)) refl
 unspent a g n false few low = rw (ne_eqb a n (λ same. omega arith), ne_eqb g n (λ same. omega arith)) refl
@@ -131,7 +131,7 @@ pub has_numbers : (l : Ledger) (c : Command) → l.format ≡ Two → l.tally.ac
 has_numbers l c two few low =
     ap (λ (format : Format). is_one format || ((l.tally.accepted == 2 ^ 64 - 1) || lacks_room l c)) two ∙ unspent l.tally.accepted l.store.generation (2 ^ 64 - 1) (has_room l c) few low
 
--- what it becomes
+-- the ledger after the command
 becomes_steady : (old new : Ledger) (c : Command) (outcome : Outcome) → fails outcome ≡ false → Becomes old c outcome new → old.store.broken ≡ false → Steady old new
 becomes_steady old new c (outcomes.Stored accepted) calm after whole = subst (Steady old) (sym after) (stored_steady old c whole)
 becomes_steady old new c outcomes.Device calm after whole = absurd (cc calm)

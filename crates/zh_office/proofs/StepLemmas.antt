@@ -1,4 +1,4 @@
--- The steps of a run, and of runs that follow each other.
+-- The steps of a run, and of consecutive runs.
 use Rattle.std.proofs.Common.{◌≡◌, List, [], ◌∷◌, ◌++◌, map, refl, ap, ◌∙◌, subst, Option, Some, ℕ}
 use Rattle.std.proofs.Math.Path.{path_j, subst_refl}
 use Rattle.std.proofs.lemmas.Grind.{flat_map-append}
@@ -17,11 +17,11 @@ pub disk-append : (disk : Trail) (xs ys : List Step) → disk_after disk (xs ++ 
 disk-append disk [] ys = refl
 disk-append disk (x ∷ xs) ys = disk-append x.disk xs ys
 
--- what is computed of a value does not see where it was carried to
+-- a function of a transported value does not depend on the transport
 carried : {A B : Type 0} (F : A → Type 0) (f : (a : A) → F a → B) {a b : A} (p : a ≡ b) (x : F a) → f b (subst F p x) ≡ f a x
 carried F f {a = a} p x = path_j (λ b q. f b (subst F q x) ≡ f a x) (ap (f a) (subst_refl F x)) p
 
--- the same steps, whatever the run is carried to
+-- a transported run has the same steps
 steps-of : (old mid new : OnDisk Office) (lines : List (List ℕ)) (out out' : List ℕ) (log log' : Log) (same : mid ≡ old) (outs : out ≡ out') (logs : log ≡ log')
     (run : Runs mid lines out log new) → steps_of old lines out' log' new (Runs-of old mid new lines out out' log log' same outs logs run) ≡ steps_of mid lines out log new run
 steps-of old mid new lines out out' log log' same outs logs run =

@@ -1,4 +1,4 @@
--- How a text that comes in pieces splits into lines.
+-- Splitting into lines a text that comes in pieces.
 use Rattle.std.proofs.Common.{◌≡◌, ℕ, zero, suc, ◌==◌, ◌+◌, ◌-◌, ◌<◌, if◌then◌else◌, Bool, true, false, ◌||◌, List, [], ◌∷◌, ◌++◌, take}
 use Rattle.std.proofs.Common.{length, refl, sym, ap, ◌∙◌, subst, arith, append_assoc, lit≤, min, drop, add-one, length-drop, drop-cons}
 use Rattle.std.specs.List.{list_any}
@@ -15,7 +15,7 @@ or_false : (a b : Bool) → a || b ≡ false → (a ≡ false) × (b ≡ false)
 or_false false b h = (refl, h)
 or_false true b h = cc
 
--- a text with no end of a line has no ended line
+-- a text without an LF has no ended line
 pub ended_none : (text : List ℕ) → HasNoEnd text → ended text ≡ []
 ended_none [] h = refl
 ended_none (byte ∷ text) h =
@@ -25,13 +25,13 @@ pub unfinished_all : (text : List ℕ) → HasNoEnd text → unfinished text ≡
 unfinished_all [] h = refl
 unfinished_all (byte ∷ text) h = rw h refl
 
--- the first line ends where LF stands first
+-- the first line ends at the first LF
 pub ended_first : (line text : List ℕ) → HasNoEnd line → ended (line ++ 10 ∷ text) ≡ line ∷ ended text
 ended_first [] text h = refl
 ended_first (byte ∷ line) text h =
     let p = or_false (byte == 10) (list_any (λ b. b == 10) line) h in rw p.0 (rw (ended_first line text p.1) refl)
 
--- LF stands somewhere
+-- the text has an LF
 has_end : (line text : List ℕ) → list_any (λ b. b == 10) (line ++ 10 ∷ text) ≡ true
 has_end [] text = refl
 has_end (byte ∷ line) text = elim (byte == 10) as (λ v. v || list_any (λ b. b == 10) (line ++ 10 ∷ text) ≡ true) [ true ↦ refl | false ↦ has_end line text ]
@@ -41,7 +41,7 @@ unfinished_first [] text h = refl
 unfinished_first (byte ∷ line) text h =
     let p = or_false (byte == 10) (list_any (λ b. b == 10) line) h in rw (has_end (byte ∷ line) text) (unfinished_first line text p.1)
 
--- what is unfinished has no end of a line
+-- the unfinished text has no LF
 pub unfinished_has_no_end : (text : List ℕ) → HasNoEnd (unfinished text)
 unfinished_has_no_end [] = refl
 unfinished_has_no_end (byte ∷ text) =
@@ -50,7 +50,7 @@ unfinished_has_no_end (byte ∷ text) =
       | false ↦ λ h. h
     ] refl
 
--- no end of a line stands in both
+-- two texts without an LF have none together
 pub HasNoEnd-append : (a b : List ℕ) → HasNoEnd a → HasNoEnd b → HasNoEnd (a ++ b)
 HasNoEnd-append [] b ha hb = hb
 HasNoEnd-append (byte ∷ a) b ha hb =
@@ -66,7 +66,7 @@ length-onto_first : (byte : ℕ) (ls : List (List ℕ)) → length (onto_first b
 length-onto_first byte [] = refl
 length-onto_first byte (l ∷ ls) = refl
 
--- where LF stands, a line is ended
+-- a text with an LF has an ended line
 ended_some : (a : List ℕ) → list_any (λ b. b == 10) a ≡ true → 0 < length (ended a)
 ended_some [] h = cc
 ended_some (byte ∷ a) h =
@@ -87,7 +87,7 @@ has_end-append (byte ∷ a) b h =
       | false ↦ λ rest. has_end-append a b rest
     ] h
 
--- the lines of a text and what follows are those of the text, and those of its unfinished line and what follows
+-- the ended lines of two texts: those of the first, then those of its unfinished text and the second
 pub ended-append : (a b : List ℕ) → ended (a ++ b) ≡ ended a ++ ended (unfinished a ++ b)
 ended-append [] b = refl
 ended-append (byte ∷ a) b =
@@ -110,7 +110,7 @@ unfinished-append (byte ∷ a) b =
       ] refl
     ] refl
 
--- texts that begin alike go on alike
+-- texts with the same prefix still have it after the same text is appended
 pub take-append_same : (n : ℕ) (p u b : List ℕ) → take n p ≡ take n u → take n (p ++ b) ≡ take n (u ++ b)
 take-append_same zero p u b h = refl
 take-append_same (suc n) [] [] b h = refl
@@ -121,7 +121,7 @@ take-append_same (suc n) (x ∷ p) (y ∷ u) b h =
     let tails : take n p ≡ take n u = cc in
     rw (heads, take-append_same n p u b tails) refl
 
--- what counts of the ended lines depends on what counts of the unfinished line before them
+-- the ended lines depend only on what counts of the unfinished text before them
 pub ended_lines-truncated : (p u b : List ℕ) → HasNoEnd p → HasNoEnd u → truncated p ≡ truncated u → ended_lines (p ++ b) ≡ ended_lines (u ++ b)
 ended_lines-truncated p u [] hp hu h = rw (append-nil p, append-nil u, ended_none p hp, ended_none u hu) refl
 ended_lines-truncated p u (byte ∷ b) hp hu h =
@@ -134,7 +134,7 @@ ended_lines-truncated p u (byte ∷ b) hp hu h =
           (subst (λ xs. ended_lines ((p ++ byte ∷ []) ++ b) ≡ ended_lines xs) (append_assoc u (byte ∷ []) b) more)
     ] refl
 
--- and so does what counts of the unfinished line after them
+-- so does what counts of the unfinished text after them
 pub unfinished-truncated : (p u b : List ℕ) → HasNoEnd p → HasNoEnd u → truncated p ≡ truncated u → truncated (unfinished (p ++ b)) ≡ truncated (unfinished (u ++ b))
 unfinished-truncated p u [] hp hu h = rw (append-nil p, append-nil u, unfinished_all p hp, unfinished_all u hu) h
 unfinished-truncated p u (byte ∷ b) hp hu h =
@@ -147,7 +147,7 @@ unfinished-truncated p u (byte ∷ b) hp hu h =
           (subst (λ xs. truncated (unfinished ((p ++ byte ∷ []) ++ b)) ≡ truncated (unfinished xs)) (append_assoc u (byte ∷ []) b) more)
     ] refl
 
--- a last line counts by what is truncated of it
+-- a last line depends only on what counts of it
 pub last_line-truncated : (a b : List ℕ) → truncated a ≡ truncated b → last_line a ≡ last_line b
 last_line-truncated [] [] h = refl
 last_line-truncated [] (y ∷ b) h = cc
@@ -157,7 +157,7 @@ last_line-truncated (x ∷ a) (y ∷ b) h = rw h refl
 pub truncated-truncated : (a : List ℕ) → truncated (truncated a) ≡ truncated a
 truncated-truncated a = take-take 121 121 a (lit≤ tt)
 
--- a line that has room takes as many bytes as it has room for
+-- a line with room takes as many bytes as it has room for
 pub truncated-room : (n room : ℕ) (line more : List ℕ) → room + length line ≡ n → take n (line ++ more) ≡ line ++ take (min (length more) room) more
 truncated-room n room line more h =
     let whole : length line + room ≡ n = omega (arith, h) in
@@ -167,11 +167,11 @@ false_from_not : (b : Bool) → (b ≡ true → ⊥) → b ≡ false
 false_from_not false h = refl
 false_from_not true h = absurd (h refl)
 
--- where no byte is LF, no line ends
+-- a text in which no byte is an LF
 pub none_found : (text : List ℕ) → ((k : ℕ) → k < length text → (slice_index_or text k 0 == 10) ≡ true → ⊥) → HasNoEnd text
 none_found text none = list_any_none (λ b. b == 10) text (All-from_get_or (λ b. (b == 10) ≡ false) text 0 (λ k k_in. false_from_not (slice_index_or text k 0 == 10) (none k k_in)))
 
--- the first LF parts a text
+-- the first LF divides a text
 pub parted : (text : List ℕ) (end : ℕ) → end < length text → (slice_index_or text end 0 == 10) ≡ true → ((k : ℕ) → k < end → (slice_index_or text k 0 == 10) ≡ true → ⊥)
     → HasNoEnd (take end text) × (text ≡ take end text ++ 10 ∷ take (length text - (end + 1)) (drop (end + 1) text))
 parted text end end_in is none =

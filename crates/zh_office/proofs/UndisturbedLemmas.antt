@@ -1,4 +1,4 @@
--- The lines, runs and texts of an office whose device does not fail, and which has numbers left.
+-- The lines, runs and texts of an office whose device does not fail and which has numbers left.
 use Rattle.std.proofs.Common.{◌≡◌, ◌≤◌, ◌<◌, ◌-◌, ◌^◌, ℕ, Bool, true, false, sym, ap, ◌∙◌, List, [], ◌∷◌, Option, Some, None}
 use Rattle.zh_returns.specs.declared.command.Command.{Command}
 use Rattle.zh_returns.specs.declared.command.Format.TheVariants.{Two}
@@ -16,7 +16,7 @@ use Rattle.zh_office.specs.Undisturbed.{is_disturbed, is_memory, TakesMemory, Is
 use Rattle.zh_office.proofs.SteadyLemmas.{Steady, all_same, as_many, below, no_less, not_risen, stays, both_steady, never_broken, never_fails, never_spends, has_numbers, acts_steady, acts_later}
 use Rattle.zh_office.proofs.CalmAnswerLemmas.{outcome_calm, outcome_without_memory, read_so, loads_calm}
 
--- a whole ledger whose disk does not fail, and which has numbers left
+-- a ledger that is not broken and has numbers left, and whose disk does not fail
 pub record Calm (old new : OnDisk Ledger) : Type 0 where
   pub whole : old.holder.store.broken ≡ false
   pub format : old.holder.format ≡ Two
@@ -40,7 +40,7 @@ module _ (old : OnDisk Ledger) (May : Answer → Type 0) (answer : Answer) (log 
   acts_memory (Some command) P (by, logs) otherwise memory =
       let never : true ≡ false = sym memory ∙ ap is_memory by.reply ∙ outcome_without_memory by.outcome in absurd (cc never)
 
--- a ledger that met no fault had numbers before, as they do not fall
+-- a ledger that met no fault had numbers left before, as they do not fall
 calm_before : (old new : OnDisk Office) → MeetsNoFault old new → Steady old.holder.ledger new.holder.ledger → Calm (its_ledger old) (its_ledger new)
 calm_before old new meets steady = record {
   whole = meets.whole;
@@ -71,13 +71,13 @@ module _ (old : OnDisk Office) (bytes : List ℕ) (answer : Answer) (new : OnDis
       let steady = turn_steady meets.whole (not_risen old.history.failures new.history.failures meets.failures meets.counted) in
       (turn_calm (calm_before old new meets steady), steady.whole)
 
--- line after line
+-- over a run, the count of failures does not fall
 runs_later : (old : OnDisk Office) (lines : List (List ℕ)) (out : List ℕ) (log : Log) (new : OnDisk Office) → Runs old lines out log new → old.history.failures ≤ new.history.failures
 runs_later old [] out log new run = as_many old.history.failures new.history.failures (ap (λ (o : OnDisk Office). o.history.failures) run.same)
 runs_later old (line ∷ lines) out log new run =
     no_less _ _ _ (turn_later old line run.answer run.mid run.turn) (runs_later run.mid lines run.rest run.others new run.follows)
 
--- the count of failures is the same at each line
+-- if the count of failures ends where it began, it is the same in between
 same_count : (old mid new : OnDisk Office) → old.history.failures ≤ mid.history.failures → mid.history.failures ≤ new.history.failures → new.history.failures ≡ old.history.failures
     → (mid.history.failures ≡ old.history.failures) × (new.history.failures ≡ mid.history.failures)
 same_count old mid new low high same = all_same old.history.failures mid.history.failures new.history.failures low high same

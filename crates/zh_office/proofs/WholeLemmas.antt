@@ -1,4 +1,4 @@
--- The lines on all records of a text, and the last line.
+-- The lines on all records of a text and the last line.
 use Rattle.std.proofs.Common.{◌≡◌, ◌+◌, ℕ, List, [], ◌∷◌, ◌++◌, Option, Result, Ok, Err, IfErr, IfOk, OnOk}
 use Rattle.std.proofs.Common.{sym, ap, ◌∙◌, subst, arith, inl, inr}
 use Rattle.std.specs.Prelude.{MatchResult}
@@ -19,16 +19,16 @@ use Rattle.zh_office.specs.declared.judging.Progress.{Progress}
 use Rattle.zh_office.proofs.FrontLemmas.{front_after, front_more}
 use Rattle.zh_office.proofs.JudgedLemmas.{other_lines}
 
--- the line on the first record, if it is refused
+-- the line of the first record, if it is refused
 abbrev pub first_lines : Record → List ℕ
 first_lines first = finding_lines (first_findings first)
 
--- the lines on the first record and on the others
+-- the lines of the first record and of the others
 lines_both : (tally : Tally) (first : Record) (others : List Record)
     → finding_lines (begun tally (first ∷ others)) ≡ first_lines first ++ other_lines tally others
 lines_both tally first others = flat_map-append line_of (first_findings first) (findings_on tally others)
 
--- the last line is written, or broken off
+-- the last line is written or broken off
 pub record WritesLast (counts : Forecast) (w w' : Option (List ℕ)) (result : Result Forecast JudgementFault) : Type 0 where
   pub comes_to : IfOk result (λ forecast. forecast ≡ counts)
   pub all : OnOk result (Appends w w' (forecast_text counts))
@@ -47,7 +47,7 @@ module _ (tally : Tally) (first : Record) (IsText : List ℕ → Type 0) (w w' :
         written = inl (subst (WritesUpTo (bytes_left fault) w w') (sym (lines_both tally first [])) more);
       }
 
-  -- the others are
+  -- the lines of the other records are broken off
   pub others_broken : (left least : ℕ) (w'' : Option (List ℕ)) → Appends w w' (first_lines first)
       → AreBrokenOff tally first IsText (WritesUpTo left w' w'') least → IsBrokenOff tally IsText w w'' left least
   others_broken left least w'' written broken =
@@ -75,7 +75,7 @@ module _ (tally : Tally) (first : Record) (IsText : List ℕ → Type 0) (w w' :
     comes_to : progress.counts ≡ its_forecast
     comes_to = judged.after.counts
 
-    -- the last line is
+    -- the last line is broken off
     pub last_broken : (fault : JudgementFault) (w3 : Option (List ℕ)) → BreaksOffLine fault w'' w3 (forecast_text progress.counts)
         → IsBrokenOff tally IsText w w3 (bytes_left fault) (records_judged fault)
     last_broken fault w3 (early, front) =
@@ -87,7 +87,7 @@ module _ (tally : Tally) (first : Record) (IsText : List ℕ → Type 0) (w w' :
           written = inr (judged.all, front_after _ w w'' w3 all_lines (forecast_text its_forecast) lines_written of_last);
         }
 
-    -- all is written
+    -- everything is written
     pub whole_judged : (w3 : Option (List ℕ)) (forecast : Forecast) → forecast ≡ progress.counts
         → Appends w'' w3 (forecast_text progress.counts) → IsJudged tally IsText w w3 forecast
     whole_judged w3 forecast is last =
@@ -99,7 +99,7 @@ module _ (tally : Tally) (first : Record) (IsText : List ℕ → Type 0) (w w' :
           comes_to = is ∙ comes_to;
         }
 
--- the same of a text of which less is known
+-- the same for a text of which less is known
 pub judges_of : (tally : Tally) (IsText Known : List ℕ → Type 0) (w w' : Option (List ℕ)) (result : Result Forecast JudgementFault)
     → ((bytes : List ℕ) → Known bytes → IsText bytes) → Judges tally IsText w w' result → Judges tally Known w w' result
 judges_of tally IsText Known w w' (Ok forecast) known judged = record {
@@ -118,7 +118,7 @@ judges_of tally IsText Known w w' (Err fault) known broken = record {
   ];
 }
 
--- a text without a record is judged, or what is written of it is broken off
+-- a text without records is judged, or its judgement is broken off
 abbrev pub JudgesNone : Tally → Option (List ℕ) → Option (List ℕ) → Result Forecast JudgementFault → Type 0
 JudgesNone tally w w' result =
     MatchResult result (λ forecast. Appends w w' (judgement_text tally []) × (forecast ≡ forecast_of (findings tally [])))

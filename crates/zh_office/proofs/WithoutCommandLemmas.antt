@@ -1,4 +1,4 @@
--- The answers to a line that gives no command are plain replies, `memory` to a row, and those with a sheet.
+-- The answers to a line that gives no command: plain replies, `memory` for a row, and the answers with a sheet.
 use Rattle.std.proofs.Common.{◌≡◌, ⊎_elim, ℕ, Bool, true, false, List, Option, Some, None, refl, sym, ap, subst, rules}
 use Rattle.zh_districts.specs.declared.setup.Misplaced.{Misplaced}
 use Rattle.zh_returns.specs.declared.row.Row.{Row}
@@ -24,7 +24,7 @@ use Rattle.zh_office.specs.Sheets.{MayGive}
 use Rattle.zh_office.specs.declared.answer.Answer.{Answer}
 use Rattle.zh_office.specs.declared.answer.Answer.TheVariants as answers
 
--- the replies that come of the count and the batches alone
+-- the replies that depend on the count and the batches alone
 abbrev pub is_plain : Reply → Bool
 is_plain (Stored accepted) = false
 is_plain (Refused (refusals.Judged reason)) = true
@@ -34,7 +34,7 @@ is_plain (Refused refusals.BatchOpen) = true
 is_plain (Refused refusal) = false
 is_plain reply = true
 
--- what holds of all these answers
+-- a property of all these answers
 pub record HoldsWithoutCommand (tally : Tally) (P : Request → Answer → Type 0) : Type 0 where
   pub plain : (request : Request) (reply : Reply) → is_plain reply ≡ true → P request (answers.Reply reply)
   pub memory : (row : Row) → P (requests.Batch (steps.Row row)) (answers.Reply (Refused refusals.Memory))
@@ -65,7 +65,7 @@ module _ (tally : Tally) (P : Request → Answer → Type 0) (holds : HoldsWitho
   plainly : (request : Request) (answer : Answer) (reply : Reply) → answer ≡ answers.Reply reply → is_plain reply ≡ true → P request answer
   plainly request answer reply is plain = subst (P request) (sym is) (holds.plain request reply plain)
 
-  -- a row is held, or refused
+  -- a row is held or refused
   row_held : (fault : Option RowFault) (count : ℕ) (row : Row) (reply : Reply) → MayHold fault count reply → P (requests.Batch (steps.Row row)) (answers.Reply reply)
   row_held (Some fault) count row reply is = plainly _ _ _ (ap answers.Reply is) refl
   row_held None count row reply may = ⊎_elim

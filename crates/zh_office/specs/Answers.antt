@@ -1,4 +1,4 @@
--- What a line is answered from the count and the batches of the desks alone, and the batches after it.
+-- The answer to a line as far as the count and the desks' batches determine it, and the batches after it.
 use Rattle.std.specs.Prelude.{◌≡◌, ◌⊎◌, ℕ, ◌+◌, false, List, [], ◌∷◌, ◌++◌, length, Option, Some, None}
 use Rattle.zh_districts.specs.Misplaced.{misplaced}
 use Rattle.zh_districts.specs.declared.setup.Misplaced.{Misplaced}
@@ -30,7 +30,7 @@ use Rattle.zh_office.specs.Sheets.{MayGive, MayAnswerFinal}
 use Rattle.zh_office.specs.declared.answer.Answer.{Answer}
 use Rattle.zh_office.specs.declared.answer.Answer.TheVariants as answers
 
--- what is shown of an entry
+-- the reply that shows an entry
 abbrev pub shown_content : ℕ → Option ℕ → Reply
 shown_content number None = ShowsWithdrawn number
 shown_content number (Some votes) = Shows number votes
@@ -44,7 +44,7 @@ abbrev pub shown_desk : Option Entry → Reply
 shown_desk None = Nothing
 shown_desk (Some entry) = LastDesk entry.origin.desk
 
--- a list that has no place is refused; else this reply is given
+-- a list without a place is refused; otherwise this reply is given
 abbrev pub reply_by_place : Option Misplaced → Reply → Reply
 reply_by_place (Some place) reply = Refused (refusals.Judged (reason_of place))
 reply_by_place None reply = reply
@@ -57,17 +57,17 @@ abbrev pub answer_to_last : Tally → ℕ → ℕ → Reply
 answer_to_last tally municipality list =
     reply_by_place (misplaced tally.canton municipality list) (shown_desk (held tally municipality list))
 
--- the answer to the opening of a batch
+-- the answer to opening a batch
 abbrev pub answer_to_open : Option (List Row) → Reply
 answer_to_open None = Held 0
 answer_to_open (Some rows) = Refused refusals.BatchOpen
 
--- the answer to the giving up of one
+-- the answer to dropping a batch
 abbrev pub answer_to_drop : Option (List Row) → Reply
 answer_to_drop None = Refused refusals.NoBatch
 answer_to_drop (Some rows) = Dropped (length rows)
 
--- the answers by whether a batch of so many rows refuses the row: else it is held, or memory is refused
+-- the answers by whether a batch of `count` rows refuses the row: if it does not, the row is held or memory is refused
 abbrev pub MayHold : Option RowFault → ℕ → Reply → Type 0
 MayHold (Some fault) count reply = reply ≡ Refused (refusals.Row fault)
 MayHold None count reply = (reply ≡ Held (count + 1)) ⊎ (reply ≡ Refused refusals.Memory)
@@ -80,7 +80,7 @@ abbrev pub MayAnswerRow : Tally → Option (List Row) → Row → Reply → Type
 MayAnswerRow tally None row reply = reply ≡ Refused refusals.NoBatch
 MayAnswerRow tally (Some rows) row reply = MayAdd (unfit tally.canton row) rows row reply
 
--- the answer to a commit that gives no command: there is no batch, or it has no rows
+-- the answer to a commit that gives no command: the desk has no batch, or its batch has no rows
 abbrev pub answer_to_commit : Option (List Row) → Reply
 answer_to_commit None = Refused refusals.NoBatch
 answer_to_commit (Some rows) = Same
@@ -98,7 +98,7 @@ MayAnswerQuery tally (queries.Last municipality list) answer = answer ≡ answer
 MayAnswerQuery tally queries.Sheet answer = MayGive tally false answer
 MayAnswerQuery tally queries.Final answer = MayAnswerFinal tally answer
 
--- the answers that a line of this desk may get that gives no command, by the count and the batches
+-- the possible answers to a line of this desk that gives no command, by the count and the batches
 abbrev pub MayAnswerTo : Tally → desks.Held → Desk → Request → Answer → Type 0
 MayAnswerTo tally batches desk (requests.Command command) answer = ⊥
 MayAnswerTo tally batches desk requests.Commit answer = answer ≡ answers.Reply (answer_to_commit (rows_of batches desk))
@@ -106,19 +106,19 @@ MayAnswerTo tally batches desk (requests.Batch step) answer =
     (reply : Reply) × MayReplyToStep tally (rows_of batches desk) step reply × (answer ≡ answers.Reply reply)
 MayAnswerTo tally batches desk (requests.Query query) answer = MayAnswerQuery tally query answer
 
--- the command that a commit of a desk gives
+-- the command of a desk's commit
 abbrev pub batch_of : ℕ → Option (List Row) → Option Command
 batch_of desk None = None
 batch_of desk (Some []) = None
 batch_of desk (Some (row ∷ rows)) = Some (commands.Batch desk (row ∷ rows))
 
--- the command that a line of a desk that holds these rows gives
+-- the command of a line, from a desk whose batch has these rows
 abbrev pub command_of : Desk → Option (List Row) → Request → Option Command
 command_of desk rows (requests.Command command) = Some (desk_command desk command)
 command_of desk rows requests.Commit = batch_of desk.number rows
 command_of desk rows request = None
 
--- the batch of a desk after a line of it that was answered so
+-- the batch of a desk after a line of the desk and this reply
 abbrev pub batch_after : Option (List Row) → Request → Reply → Option (List Row)
 batch_after rows (requests.Batch steps.Open) (Held count) = Some []
 batch_after (Some rows) (requests.Batch (steps.Row row)) (Held count) = Some (rows ++ row ∷ [])
@@ -127,7 +127,7 @@ batch_after rows requests.Commit (Stored accepted) = None
 batch_after rows requests.Commit Same = None
 batch_after rows request reply = rows
 
--- the batches after a line that was answered so: only that of its desk can be another
+-- the batches after a line and this answer: only the batch of the line's desk can change
 abbrev pub held_after : desks.Held → Line → Answer → desks.Held
 held_after held line (answers.Reply reply) = with_batch held line.desk (batch_after (rows_of held line.desk) line.request reply)
 held_after held line (answers.Sheet sheet is_final) = held

@@ -1,9 +1,9 @@
--- The batches of the desks.
+-- The desks' batches.
 use Rattle.std.specs.Prelude.{◌-◌, List, [], ◌∷◌, Option, None, get_or, set}
 use Rattle.zh_returns.specs.declared.row.Row.{Row}
 use Rattle.zh_returns.specs.declared.batch.Desk.{Desk}
 
--- of each desk, from the first on, the rows that it holds, or nothing where it has no batch
+-- the rows in each desk's batch, from desk 1 on, or nothing if the desk has no batch
 abbrev pub Held : Type 0
 Held = List (Option (List Row))
 
@@ -11,7 +11,7 @@ Held = List (Option (List Row))
 abbrev pub rows_of : Held → Desk → Option (List Row)
 rows_of held desk = get_or held (desk.number - 1) None
 
--- with this batch, or none, at a desk
+-- the batches with this batch, or none, for a desk
 abbrev pub with_batch : Held → Desk → Option (List Row) → Held
 with_batch held desk batch = set held (desk.number - 1) batch
 

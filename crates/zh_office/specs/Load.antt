@@ -1,4 +1,4 @@
--- What an office answers to a text that is loaded, and what it holds after it.
+-- The answer to a text that is loaded, and the office after it.
 use Rattle.std.specs.Prelude.{◌≡◌, ℕ, Bool, true, false, List, Option, Some, None, Result, Ok, Err}
 use Rattle.zh_returns.specs.declared.command.Command.{Command}
 use Rattle.zh_returns.specs.declared.row.Row.{Row}
@@ -17,7 +17,7 @@ use Rattle.zh_office.specs.declared.answer.Answer.TheVariants as answers
 use Rattle.zh_office.specs.Office.{Office}
 use Rattle.zh_office.specs.Runs.{its_ledger}
 
--- the name under which a text is refused; a reader that fails is reported as `csv`
+-- the refusal of a text for this fault; a reader that fails is reported as `csv`
 abbrev pub load_refusal : LoadFault → Refusal
 load_refusal faults.Csv = refusals.Csv
 load_refusal faults.Syntax = refusals.Syntax
@@ -26,13 +26,13 @@ load_refusal (faults.Row fault) = refusals.Row fault
 load_refusal faults.Memory = refusals.Memory
 load_refusal faults.Read = refusals.Csv
 
--- the command that was loaded, if any: all the rows of a text, as one batch of no desk; after a fault of the device none is
+-- the command of a loading, if there is one: all rows of the text, as one batch of no desk; after a fault of the device there is none
 abbrev pub command_loaded : Bool → Result (List Row) LoadFault → Option Command
 command_loaded true loaded = None
 command_loaded false (Err fault) = None
 command_loaded false (Ok rows) = batch_of 0 (Some rows)
 
--- the reply where there is none: the disk must be opened again, or the text is refused, or it has no rows
+-- the reply without a command: the disk must be reopened, the text is refused, or the text has no rows
 abbrev pub load_reply : Bool → Result (List Row) LoadFault → Reply
 load_reply true loaded = Refused refusals.ReopenDisk
 load_reply false (Err fault) = Refused (load_refusal fault)
@@ -44,8 +44,8 @@ StoresLoaded old loaded answer log new =
     Acts (its_ledger old) (command_loaded old.holder.ledger.store.broken loaded)
     (λ a. a ≡ answers.Reply (load_reply old.holder.ledger.store.broken loaded)) answer log (its_ledger new)
 
--- The office may answer to this text so, whose reader failed or not, and then it and its disk hold this; no desk's batch
--- is touched.
+-- The office may give this reply to this text, whose reader failed or not; then the office and its disk are `new`. No desk's batch
+-- changes.
 pub record LoadTurn (old : OnDisk Office) (text : Option (List ℕ)) (failed : Bool) (reply : Reply)
     (new : OnDisk Office) : Type 0 where
   pub loaded : Result (List Row) LoadFault

@@ -1,4 +1,4 @@
--- A night of an office: lines, loaded texts, stops and openings on an honest disk that was formatted for it.
+-- A night of an office: lines, loaded texts, stops and openings on an honest disk that was formatted for the office.
 use Rattle.std.specs.Prelude.{◌≡◌, ℕ, Bool, List, Option}
 use Rattle.zh_office.specs.DeskBatches.{no_batches}
 use Rattle.zh_ledger.specs.Night.{Keeper, Law}
@@ -9,20 +9,20 @@ use Rattle.zh_office.specs.Office.{Office}
 use Rattle.zh_office.specs.Load.{LoadTurn}
 use Rattle.zh_office.specs.Runs.{Turn}
 
--- what is handed to an office
+-- what an office is given
 pub data Handed : Type 0 where
   -- the bytes of a line
   line : List ℕ → Handed
-  -- a text that is loaded, whose bytes may be unknown
+  -- a text that is loaded; its bytes may be unknown
   text : Option (List ℕ) → Handed
 
--- the office answers it so, and adds this to the log; a text is answered with a reply
+-- the office gives this answer and adds this to the log; a text is answered with a reply
 abbrev pub TakesTurn : OnDisk Office → Handed → Answer → Log → OnDisk Office → Type 0
 TakesTurn old (line bytes) answer log new = (turn : Turn old bytes answer new) × (log ≡ turn.log)
 TakesTurn old (text bytes) (Reply reply) log new = (failed : Bool) × (turn : LoadTurn old bytes failed reply new) × (log ≡ turn.log)
 TakesTurn old (text bytes) (Sheet sheet is_final) log new = ⊥
 
--- an office keeps a ledger; when it is opened no desk has a batch
+-- an office keeps a ledger; when it is opened, no desk has a batch
 abbrev pub office : Keeper
 office = record {
   Holder = Office;

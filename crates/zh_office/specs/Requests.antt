@@ -1,4 +1,4 @@
--- What a line that was read is answered, and what it leaves of the ledger and its disk.
+-- The answer to a line that was read, and the ledger and its disk after it.
 use Rattle.std.specs.Prelude.{◌≡◌, Bool, true, false, Option, Some, None}
 use Rattle.zh_returns.specs.declared.command.Command.{Command}
 use Rattle.zh_returns.specs.Tally.{Tally}
@@ -24,24 +24,24 @@ reply_to outcomes.Spent = Refused refusals.Spent
 reply_to outcomes.Device = Refused refusals.Device
 reply_to outcomes.Broken = Refused refusals.ReopenDisk
 
--- after a fault of the device the disk must be opened again
+-- after a fault of the device the disk must be reopened
 abbrev pub MayAnswerWhere : Bool → Tally → Held → Line → Answer → Type 0
 MayAnswerWhere true tally held line answer = answer ≡ answers.Reply (Refused refusals.ReopenDisk)
 MayAnswerWhere false tally held line answer = MayAnswerTo tally held line.desk line.request answer
 
--- a command is submitted, and its outcome is reported
+-- a command is submitted and its outcome reported
 pub record ReportsOutcome (old : OnDisk Ledger) (command : Command) (answer : Answer) (new : OnDisk Ledger) : Type 0 where
   pub outcome : Outcome
   pub submission : Submission old command outcome new
   pub reply : answer ≡ answers.Reply (reply_to outcome)
 
--- An answer that may be given, the log that it adds, and what ledger and disk hold after it: without a command nothing
--- changes; a command is submitted, and its outcome reported.
+-- A possible answer, the log that it adds, and the ledger and the disk after it. Without a command nothing changes; a command is
+-- submitted and its outcome reported.
 abbrev pub Acts : OnDisk Ledger → Option Command → (Answer → Type 0) → Answer → Log → OnDisk Ledger → Type 0
 Acts old None May answer log new = May answer × (log ≡ nothing) × (new ≡ old)
 Acts old (Some command) May answer log new = (by : ReportsOutcome old command answer new) × (log ≡ by.submission.log)
 
--- after every other answer than `stored` and `device` the disk is as it was
+-- whether the disk may have changed; after every answer except `stored` and `device` it has not
 abbrev pub answer_may_write : Answer → Bool
 answer_may_write (answers.Reply (Stored accepted)) = true
 answer_may_write (answers.Reply (Refused refusals.Device)) = true

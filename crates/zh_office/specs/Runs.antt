@@ -17,14 +17,14 @@ use Rattle.zh_office.specs.Office.{Office, MayAnswer, command_read, batches_afte
 abbrev pub its_ledger : OnDisk Office → OnDisk Ledger
 its_ledger = of_ledger (λ o. o.ledger)
 
--- What a ledger's calls leave of it and of the history of its disk, whatever they are: a disk that is honest was so before,
--- no failure is forgotten, and one came where the ledger broke.
+-- What holds of a ledger and the history of its disk after any calls: a disk that is honest now was honest before, the count of failures
+-- does not fall, and it has risen if the ledger broke.
 pub record Continues (old new : OnDisk Ledger) : Type 0 where
   pub kept : IsTrue new.history.honest → IsTrue old.history.honest
   pub later : old.history.failures ≤ new.history.failures
   pub cause : old.holder.store.broken ≡ false → new.holder.store.broken ≡ true → HasRisen old.history.failures new.history.failures
 
--- the office may answer these bytes of a line so, and then it and its disk hold this
+-- the office may give this answer to the bytes of a line; then the office and its disk are `new`
 pub record Turn (old : OnDisk Office) (bytes : List ℕ) (answer : Answer) (new : OnDisk Office) : Type 0 where
   pub reading : Result Line LineFault
   pub reads : ParsesAs bytes reading
@@ -32,22 +32,22 @@ pub record Turn (old : OnDisk Office) (bytes : List ℕ) (answer : Answer) (new 
   pub acts : Acts (its_ledger old) (command_read old.holder reading) (MayAnswer old.holder reading) answer log (its_ledger new)
   pub held : new.holder.held ≡ batches_after old.holder.held reading answer
 
--- the text of an answer under a desk, where so many commands are accepted
+-- the text of an answer to this desk, when this many commands are accepted
 abbrev pub answer_text : ℕ → ℕ → Answer → List ℕ
 answer_text desk accepted (answers.Reply reply) = reply_text desk reply
 answer_text desk accepted (answers.Sheet sheet is_final) = sheet_text sheet desk is_final accepted
 
--- the text of the answer to a line by an office that holds this after it
+-- the text of the answer to a line, where `new` is the office after the line
 abbrev pub text_after : List ℕ → Answer → OnDisk Office → List ℕ
 text_after line answer new = answer_text (desk_of line) new.holder.ledger.tally.accepted answer
 
--- no line is left to be answered
+-- no line is left to answer
 pub record IsIdle (old : OnDisk Office) (out : List ℕ) (log : Log) (new : OnDisk Office) : Type 0 where
   pub wrote : out ≡ []
   pub logs : log ≡ nothing
   pub same : new ≡ old
 
--- a line takes its turn, and what follows goes on from there
+-- a line takes its turn, and the rest of the run continues from there
 pub record GoesOnWith (old : OnDisk Office) (line : List ℕ) (out : List ℕ) (log : Log)
     (Follows : OnDisk Office → List ℕ → Log → Type 0) : Type 0 where
   pub answer : Answer
@@ -59,7 +59,7 @@ pub record GoesOnWith (old : OnDisk Office) (line : List ℕ) (out : List ℕ) (
   pub wrote : out ≡ text_after line answer mid ++ rest
   pub logs : log ≡ followed_by turn.log others
 
--- line after line is answered under its desk, and these are all the bytes of the answers, and what they log
+-- the lines are answered in turn, each to its desk; `out` is the bytes of all answers, and `log` is what they log
 abbrev pub Runs : OnDisk Office → List (List ℕ) → List ℕ → Log → OnDisk Office → Type 0
 Runs old [] out log new = IsIdle old out log new
 Runs old (line ∷ lines) out log new = GoesOnWith old line out log (λ mid rest others. Runs mid lines rest others new)

@@ -1,4 +1,4 @@
--- What is answered to the lines of sheets.
+-- The answers to the lines that ask for a sheet.
 use Rattle.std.specs.Prelude.{◌≡◌, ◌⊎◌, ℕ, ◌<◌, ◌≤◌, Bool, true, false, length, Result, Ok, Err}
 use Rattle.std.specs.FinSet as set
 use Rattle.zh_returns.specs.Tally.{Tally}
@@ -18,57 +18,57 @@ use Rattle.zh_office.specs.declared.answer.Answer.TheVariants as answers
 use Rattle.zh_office.specs.declared.queries.NotGiven.{NotGiven}
 use Rattle.zh_office.specs.declared.queries.NotGiven.TheVariants.{NoSheet, NotClosed}
 
--- the name under which a sheet is refused
+-- the refusal of a sheet for this fault
 abbrev pub sheet_refusal : SheetFault → Refusal
 sheet_refusal faults.Memory = refusals.Memory
 sheet_refusal (faults.Refused refusal) = refusals.Sheet refusal
 
--- the answer with this sheet, or with why there is none
+-- the answer with this sheet, or with the reason why there is none
 abbrev pub answer_with : Bool → Result Distribution SheetFault → Answer
 answer_with is_final (Ok sheet) = answers.Sheet sheet is_final
 answer_with is_final (Err fault) = answers.Reply (Refused (sheet_refusal fault))
 
--- totals are answered with their sheet
+-- the totals are answered with their sheet, or with the reason why they have none
 abbrev pub MayGiveFor : VoteTotals → Bool → Answer → Type 0
 MayGiveFor totals is_final answer = (made : Result Distribution SheetFault) × IsMade totals made × (answer ≡ answer_with is_final made)
 
--- and a count with that of its totals
+-- a count is answered as its totals are
 abbrev pub MayGive : Tally → Bool → Answer → Type 0
 MayGive tally is_final answer = MayGiveFor (totals_of tally) is_final answer
 
--- each municipality is closed
+-- every municipality is closed
 abbrev pub AreClosed : Tally → Type 0
 AreClosed tally = (m : ℕ) → 1 ≤ m → m ≤ length tally.canton.municipalities → set.contains tally.closed m ≡ true
 
--- this municipality is open, the lowest such
+-- this municipality is the lowest-numbered open one
 pub record IsFirstOpen (tally : Tally) (m : ℕ) : Type 0 where
   pub from_one : 1 ≤ m
   pub there : m ≤ length tally.canton.municipalities
   pub not_closed : set.contains tally.closed m ≡ false
   pub before : (k : ℕ) → 1 ≤ k → k < m → set.contains tally.closed k ≡ true
 
--- the lowest open municipality is reported; if none is open, the final sheet is given
+-- the lowest-numbered open municipality is reported; if none is open, the final sheet is given
 abbrev pub MayAnswerFinal : Tally → Answer → Type 0
 MayAnswerFinal tally answer =
     ((m : ℕ) × IsFirstOpen tally m × (answer ≡ answers.Reply (Refused (refusals.Judged (reasons.NotClosed m)))))
     ⊎ (AreClosed tally × MayGive tally true answer)
 
--- the line `sheet`, or the line `final`, may be answered so
+-- the possible answers to the line `sheet`, or to the line `final`
 abbrev pub MayAnswerSheet : Tally → Bool → Answer → Type 0
 MayAnswerSheet tally false answer = MayGive tally false answer
 MayAnswerSheet tally true answer = MayAnswerFinal tally answer
 
--- the name under which a sheet that is not given is refused
+-- the refusal of a sheet that is not given
 abbrev pub refusal_of : NotGiven → Refusal
 refusal_of (NotClosed m) = refusals.Judged (reasons.NotClosed m)
 refusal_of (NoSheet none) = sheet_refusal (sheet_fault none)
 
--- the answer that gives this sheet, or says why there is none
+-- the answer with this sheet, or with the reason why it is not given
 abbrev pub sheet_answer : Bool → Result Distribution NotGiven → Answer
 sheet_answer is_final (Ok sheet) = answers.Sheet sheet is_final
 sheet_answer is_final (Err why) = answers.Reply (Refused (refusal_of why))
 
--- where the totals have none, all that was found of it is so
+-- if the totals have no sheet, everything found about the reason is true
 abbrev pub IsWhy : Tally → NotGiven → Type 0
 IsWhy tally (NotClosed m) = Unit {0}
 IsWhy tally (NoSheet none) = HaveNoSheet (totals_of tally) none

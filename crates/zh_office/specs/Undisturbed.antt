@@ -1,4 +1,4 @@
--- What an office answers whose device does not fail, and which has numbers left.
+-- The answers of an office whose device does not fail and which has numbers left.
 use Rattle.std.specs.Prelude.{◌≡◌, ℕ, ◌<◌, ◌-◌, ◌^◌, Bool, true, false, List, [], ◌∷◌, Result, Ok, Err}
 use Rattle.zh_commands.specs.declared.lines.Line.{Line}
 use Rattle.zh_commands.specs.declared.lines.LineFault.{LineFault}
@@ -15,19 +15,19 @@ use Rattle.zh_office.specs.declared.answer.Answer.TheVariants as answers
 use Rattle.zh_office.specs.Office.{Office}
 use Rattle.zh_office.specs.Runs.{Runs}
 
--- the replies that come of the device, now or before, or of numbers that are used up
+-- the replies because of the device, now or earlier, or of numbers that are used up
 abbrev pub is_disturbed : Answer → Bool
 is_disturbed (answers.Reply (Refused refusals.Device)) = true
 is_disturbed (answers.Reply (Refused refusals.ReopenDisk)) = true
 is_disturbed (answers.Reply (Refused refusals.Spent)) = true
 is_disturbed answer = false
 
--- the reply that comes of refused memory
+-- the reply because of refused memory
 abbrev pub is_memory : Answer → Bool
 is_memory (answers.Reply (Refused refusals.Memory)) = true
 is_memory answer = false
 
--- the lines that may be answered so: `row`, `sheet` and `final`
+-- the lines that can get that reply: `row`, `sheet` and `final`
 abbrev pub RequestTakesMemory : Request → Type 0
 RequestTakesMemory (requests.Batch (steps.Row row)) = Unit {0}
 RequestTakesMemory (requests.Query queries.Sheet) = Unit {0}
@@ -38,13 +38,13 @@ abbrev pub TakesMemory : Result Line LineFault → Type 0
 TakesMemory (Ok line) = RequestTakesMemory line.request
 TakesMemory (Err fault) = ⊥
 
--- the answer to bytes that were read so is none of `device`, `reopen-disk` and `spent`, and `memory` only to such a line
+-- the answer to bytes that read like this is not `device`, `reopen-disk` or `spent`, and it is `memory` only for such a line
 pub record IsUndisturbed (reading : Result Line LineFault) (answer : Answer) : Type 0 where
   pub calm : is_disturbed answer ≡ false
   pub memory : is_memory answer ≡ true → TakesMemory reading
 
--- The office had met no fault of the device and has a slot of format Two, and no call of its disk failed since; in the end
--- a number is left for the failures, for a command and for a switch.
+-- The office had met no fault of the device and has a slot of format Two, and no call of its disk has failed since. At the end a number
+-- is left for the failures, for a command and for a switch.
 pub record MeetsNoFault (old new : OnDisk Office) : Type 0 where
   pub whole : old.holder.ledger.store.broken ≡ false
   pub format : old.holder.ledger.format ≡ Two
@@ -53,7 +53,7 @@ pub record MeetsNoFault (old new : OnDisk Office) : Type 0 where
   pub accepted : new.holder.ledger.tally.accepted < 2 ^ 64 - 1
   pub generation : new.holder.ledger.store.generation < 2 ^ 64 - 1
 
--- each line of a run is answered so
+-- each line of a run is answered like this
 abbrev pub AreUndisturbed : (old : OnDisk Office) (lines : List (List ℕ)) (out : List ℕ) (log : Log) (new : OnDisk Office)
     → Runs old lines out log new → Type 0
 AreUndisturbed old [] out log new run = Unit {0}

@@ -1,4 +1,4 @@
-//! Answers to the lines of the desks.
+//! The answers to the desks' lines.
 
 ghost use Rattle.std.specs.Prelude.{◌≡◌, ◌≤◌, false, length};
 ghost use Rattle.zh_returns.specs.Rows.{rows_length};
@@ -20,12 +20,12 @@ use zh_ledger::{Ledger, Outcome};
 use zh_returns::{Batch, Command, Desk};
 use zh_sheet::Sheet;
 
-/// What is answered to a line.
+/// The answer to a line.
 #[derive(Drop)]
 pub enum Answer<'s> {
     /// A reply of one line.
     Reply(Reply),
-    /// A sheet, and whether it is the final one: every municipality is closed.
+    /// A sheet, and whether it is final. It is final once every municipality is closed.
     Sheet(Sheet<'s>, bool),
 }
 
@@ -43,7 +43,7 @@ fn reply_to(outcome: Outcome) -> Reply
     }
 }
 
-/// Submits a command, and reports its outcome.
+/// Submits a command and reports its outcome.
 fn submit<D: Disk>(ledger: &mut Ledger<'_>, disk: &mut D, command: &Command<'_>) -> Reply
     requires { HasNumbers command.now }
     ensures reported { ReportsOutcome (on_disk ledger.old (D.history disk.old)) command.now (answers.Reply result)
@@ -53,8 +53,8 @@ fn submit<D: Disk>(ledger: &mut Ledger<'_>, disk: &mut D, command: &Command<'_>)
     reply_to(ledger.submit(disk, command))
 }
 
-/// Submits these rows, of which there is one at least, as one command of this desk, and reports its outcome. Desk 0 stands
-/// for what no desk sent.
+/// Submits these rows, at least one, as a single command of this desk and reports its outcome. Desk 0 means that no desk
+/// sent the rows.
 pub(crate) fn submit_rows<D: Disk>(
     ledger: &mut Ledger<'_>,
     disk: &mut D,
@@ -73,7 +73,7 @@ pub(crate) fn submit_rows<D: Disk>(
     submit(ledger, disk, &Command::Batch { desk, rows })
 }
 
-/// Submits a desk's batch as one command. It ends where it is stored, or held already.
+/// Submits a desk's batch as one command. The batch ends if it is stored or if the count already holds it.
 fn commit<D: Disk>(
     ledger: &mut Ledger<'_>,
     disk: &mut D,
@@ -100,8 +100,8 @@ fn commit<D: Disk>(
 }
 
 impl<'s> Office<'s> {
-    /// Answers what a desk asks for: a command is submitted, and every other line answered from memory. After a fault of
-    /// the device all is `reopen-disk`.
+    /// Answers a desk's request: submits a command, and answers every other request from memory. After a fault of the
+    /// device every answer is `reopen-disk`.
     pub(crate) fn answer_to<D: Disk>(&mut self, disk: &mut D, line: Line) -> Answer<'s>
         requires { IsRequest line.request }
         ensures acts { (log : Log) × Acts (on_disk self.old.ledger (D.history disk.old))

@@ -1,4 +1,4 @@
-//! The batches of the desks.
+//! The desks' batches.
 
 ghost use Rattle.std.specs.Prelude.{◌≡◌, [], Some, None};
 ghost use Rattle.zh_commands.specs.Lines.{IsRow, IsRequest};
@@ -17,7 +17,7 @@ use zh_returns::{Batch, Count, Desk, LAST_DESK, Row};
 /// How many desks there are.
 const DESKS: usize = LAST_DESK as usize;
 
-/// Of each desk its batch, if it has one.
+/// The batch of each desk, if it has one.
 #[derive(Drop)]
 pub struct Desks {
     batches: [Option<Batch>; DESKS],
@@ -48,7 +48,7 @@ impl Desks {
         self.batches[desk.number as usize - 1].as_ref()
     }
 
-    /// Takes a step of a desk's batch, of which no command comes.
+    /// Takes a step of a desk's batch. A step submits no command.
     pub(crate) fn step(
         &mut self,
         alloc: Global,
@@ -67,7 +67,7 @@ impl Desks {
         }
     }
 
-    /// Gives a desk an empty batch. It takes no memory.
+    /// Opens an empty batch for a desk. This takes no memory.
     fn open(&mut self, alloc: Global, desk: Desk) -> Reply
         ensures answer { result ≡ answer_to_open (rows_of self.old desk) }
         ensures held { self.new ≡ with_batch self.old desk (batch_after (rows_of self.old desk) (requests.Batch steps.Open) result) }
@@ -94,7 +94,7 @@ impl Desks {
         }
     }
 
-    /// Gives up a desk's batch.
+    /// Drops a desk's batch.
     fn give_up(&mut self, desk: Desk) -> Reply
         ensures answer { result ≡ answer_to_drop (rows_of self.old desk) }
         ensures held { self.new ≡ with_batch self.old desk (batch_after (rows_of self.old desk) (requests.Batch steps.Drop) result) }

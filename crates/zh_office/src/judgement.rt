@@ -1,4 +1,4 @@
-//! What a loading would do with a record, and with a text.
+//! What a loading would do with a record and with a text.
 
 ghost use Rattle.std.specs.Prelude.{◌≡◌, ◌+◌, ◌<◌, ◌≤◌, ◌^◌};
 ghost use Rattle.zh_csv.specs.declared.records.ReadFault.TheVariants as reading;
@@ -16,13 +16,14 @@ use zh_text::WriteFault;
 pub enum Judgement {
     /// Its row would be stored.
     Stores,
-    /// The count holds its row already.
+    /// The count already holds its row.
     Same,
     Refused(Refusal),
 }
 
-/// What a loading would do with a text: of so many records it would refuse so many, and whether it would store one. It stores
-/// all of them or none: where none is refused and none would be stored, the count holds all of them already.
+/// What a loading would do with a text: how many records it would judge, how many of them it would refuse, and whether it
+/// would store one. A loading stores all of them or none. If none is refused and none would be stored, the count already
+/// holds them all.
 #[derive(Clone, Copy, Debug, PartialEq, Eq)]
 pub struct Forecast {
     pub records: u32,
@@ -31,7 +32,7 @@ pub struct Forecast {
 }
 
 impl Forecast {
-    /// Counts one record more.
+    /// Counts one more record.
     pub(crate) fn note(&mut self, judgement: Judgement)
         requires within { self.old.refused ≤ self.old.records }
         requires room { self.old.records + 1 < 2 ^ 32 }
@@ -46,7 +47,7 @@ impl Forecast {
     }
 }
 
-/// The judgement of a row by the verdict on it.
+/// The judgement of a row, from the verdict on it.
 pub(crate) fn by_verdict(verdict: Verdict) -> Judgement
     ensures { result ≡ by_verdict verdict }
 {
@@ -57,16 +58,16 @@ pub(crate) fn by_verdict(verdict: Verdict) -> Judgement
     }
 }
 
-/// Why a text is not judged to its end.
+/// Why the judging of a text stopped before its end.
 #[derive(Clone, Copy, Debug, PartialEq, Eq)]
 pub enum JudgementFault {
     /// Memory ran out.
     Memory,
     /// The reader failed.
     Read,
-    /// The text has 4,294,967,294 records or more.
+    /// The text has at least 4,294,967,294 records.
     Turns,
-    /// The writer failed, or took no byte.
+    /// The writer failed or took no byte.
     Write,
 }
 

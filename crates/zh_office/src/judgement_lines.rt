@@ -1,4 +1,4 @@
-//! The lines that say what a loading would do: one of each record that is refused, and the last.
+//! The lines that say what a loading would do: one for each refused record, and a last line.
 
 ghost use Rattle.std.specs.Prelude.{◌≡◌, ◌<◌, ◌++◌, ◌∷◌, [], drop, length, IfOk, OnOk};
 ghost use Rattle.csv.specs.Records.{fields_of};
@@ -14,14 +14,14 @@ use zh_commands::{Refusal, Reply, answer_line};
 use zh_csv::field;
 use zh_text::{ShownNames, push_number, push_shown};
 
-/// Puts a field at the end as it is shown, a byte order mark by its name.
+/// Appends a field as it is shown. A byte order mark is replaced by its name.
 fn push_field(line: &mut Vec<u8>, field: &[u8]) -> Result<(), AllocError>
     ensures { OnOk result (line.new.items ≡ line.old.items ++ shown_field field.now) }
 {
     push_shown(line, ShownNames::Mark, field)
 }
 
-/// Puts the fields after the first at the end, a comma before each.
+/// Appends the fields after the first, each after a comma.
 fn push_others(line: &mut Vec<u8>, record: &ByteRecord) -> Result<(), AllocError>
     requires { 0 < length (fields_of record.now) }
     ensures { OnOk result (line.new.items ≡ line.old.items ++ after_commas (drop 1 (fields_of record.now))) }
@@ -33,7 +33,7 @@ fn push_others(line: &mut Vec<u8>, record: &ByteRecord) -> Result<(), AllocError
     Ok(())
 }
 
-/// Puts the fields at the end, a comma between each two.
+/// Appends the fields, separated by commas.
 fn push_fields(line: &mut Vec<u8>, record: &ByteRecord) -> Result<(), AllocError>
     ensures { OnOk result (line.new.items ≡ line.old.items ++ joined (fields_of record.now)) }
 {
@@ -44,7 +44,7 @@ fn push_fields(line: &mut Vec<u8>, record: &ByteRecord) -> Result<(), AllocError
     push_others(line, record)
 }
 
-/// Puts the refusal at the end, after a space, and then the end of the line.
+/// Appends a space, the refusal and the end of the line.
 fn push_refusal(line: &mut Vec<u8>, refusal: Refusal) -> Result<(), AllocError>
     ensures { OnOk result (line.new.items ≡ line.old.items ++ 32 ∷ answer (Reply.Refused refusal) ++ 10 ∷ []) }
 {
@@ -52,14 +52,14 @@ fn push_refusal(line: &mut Vec<u8>, refusal: Refusal) -> Result<(), AllocError>
     line.extend_from_slice(&answer_line(&Reply::Refused(refusal)))
 }
 
-/// Whether a record is the names of the columns with semicolons between them.
+/// Whether a record consists of the column names, separated by semicolons.
 fn has_semicolons(record: &ByteRecord) -> bool
     ensures { result ≡ has_semicolons (fields_of record.now) }
 {
     record.len() == 1 && field(record, 0) == b"municipality;list;number;votes".as_slice()
 }
 
-/// Puts at the end how to convert a text, below its first record, if semicolons are between the names of its columns.
+/// Appends how to convert the text, if this is its first record and semicolons separate its column names.
 fn push_conversion(line: &mut Vec<u8>, number: u32, record: &ByteRecord) -> Result<(), AllocError>
     ensures { OnOk result (line.new.items ≡ line.old.items ++ conversion number (fields_of record.now)) }
 {
@@ -71,7 +71,7 @@ fn push_conversion(line: &mut Vec<u8>, number: u32, record: &ByteRecord) -> Resu
     )
 }
 
-/// The line of a record that is refused, and below it what to do about a text with semicolons.
+/// The line of a refused record, followed by the advice on a text with semicolons where it applies.
 pub(crate) fn refused_line(
     alloc: Global,
     number: u32,
@@ -90,7 +90,7 @@ pub(crate) fn refused_line(
     Ok(line)
 }
 
-/// Puts how many of the records are refused at the end.
+/// Appends how many of the records are refused.
 fn push_refused(line: &mut Vec<u8>, refused: u32, records: u32) -> Result<(), AllocError>
     ensures { OnOk result (line.new.items ≡ line.old.items ++ refused_text refused records) }
 {
@@ -101,7 +101,7 @@ fn push_refused(line: &mut Vec<u8>, refused: u32, records: u32) -> Result<(), Al
     line.extend_from_slice(b" records\n")
 }
 
-/// The last line.
+/// The last line, which sums up the forecast.
 pub(crate) fn forecast_line(alloc: Global, forecast: Forecast) -> Result<Vec<u8>, AllocError>
     ensures { IfOk result (λ line. line.items ≡ forecast_text forecast) }
 {

@@ -27,14 +27,14 @@ use zh_csv::{LoadFault, NotedReader, hold, is_names, next_record, reader_of, row
 use zh_returns::{Batch, Command, Count, Row};
 use zh_text::put;
 
-/// The rows that a record may not repeat, and what a loading would come to so far.
+/// The rows that no later record may repeat, and the forecast so far.
 #[derive(Drop)]
 pub(crate) struct Progress {
     pub(crate) rows: Batch,
     pub(crate) counts: Forecast,
 }
 
-/// The judgement of a record that is not held for this fault.
+/// The refusal of a record that cannot be held because of this fault. Refused memory is an error.
 fn refused_for(fault: LoadFault) -> Result<Judgement, AllocError>
     ensures { IfOk result (λ judged. (judged ≡ Judgement.Refused (load_refusal fault)) × (fault ≢ LoadFault.Memory)) }
 {
@@ -44,7 +44,7 @@ fn refused_for(fault: LoadFault) -> Result<Judgement, AllocError>
     }
 }
 
-/// The judgement of a row after others, with which it is held where reading it has no fault.
+/// Judges a row after these rows, and adds it to them unless it has a fault of its own or conflicts with them.
 fn judge_row(count: &Count<'_>, rows: &mut Batch, row: Row) -> Result<Judgement, AllocError>
     requires { IsReadable row }
     ensures { IfOk result (λ judged. (judged ≡ judgement count.now rows.old (Ok row))
@@ -56,7 +56,7 @@ fn judge_row(count: &Count<'_>, rows: &mut Batch, row: Row) -> Result<Judgement,
     Ok(by_verdict(count.judge(&Command::Return { desk: 0, row })))
 }
 
-/// The judgement of a record after these rows.
+/// Judges a record after these rows, and adds its row to them unless it has a fault.
 fn judge_record(
     count: &Count<'_>,
     rows: &mut Batch,
@@ -71,7 +71,7 @@ fn judge_record(
     }
 }
 
-/// Writes the line of a record, if it is refused.
+/// Writes the line of a record if it is refused.
 fn write_finding<W: Write>(
     alloc: Global,
     number: u32,
@@ -91,7 +91,7 @@ fn write_finding<W: Write>(
     Ok(())
 }
 
-/// Judges the first record, which the names of the columns must be.
+/// Judges the first record, which must consist of the column names.
 fn judge_first<W: Write>(
     alloc: Global,
     record: &ByteRecord,
@@ -139,7 +139,7 @@ impl Progress {
         })
     }
 
-    /// Judges a further record, of this row of the text.
+    /// Judges a further record. `number` is its row in the text.
     pub(crate) fn take<W: Write>(
         &mut self,
         alloc: Global,
@@ -190,7 +190,7 @@ fn judge_others<R: Read, W: Write>(
     Err(JudgementFault::Turns)
 }
 
-/// Writes what a loading would come to, and gives it.
+/// Writes the forecast and returns it.
 fn write_forecast<W: Write>(
     alloc: Global,
     forecast: Forecast,
@@ -205,7 +205,7 @@ fn write_forecast<W: Write>(
     Ok(forecast)
 }
 
-/// Judges a text that has no record.
+/// Judges a text without records.
 fn judge_none<W: Write>(alloc: Global, out: &mut W) -> Result<Forecast, JudgementFault>
     ensures { (tally : Tally) → MatchResult result
         (λ forecast. Appends (W.contents out.old) (W.contents out.new) (judgement_text tally [])
@@ -216,7 +216,7 @@ fn judge_none<W: Write>(alloc: Global, out: &mut W) -> Result<Forecast, Judgemen
     write_forecast(alloc, progress.counts, out)
 }
 
-/// Judges a text whose first record was read.
+/// Judges a text whose first record has been read.
 fn judge_all<R: Read, W: Write>(
     alloc: Global,
     count: &Count<'_>,
@@ -249,8 +249,8 @@ fn judge_records<R: Read + Drop, W: Write>(
     judge_all(alloc, count, &mut reader, &mut record, out)
 }
 
-/// Judges the records of a text as they would be loaded into this count, writes a line for each that would be refused, and
-/// then what a loading would come to. It holds one record at a time, and the rows that none may repeat, 1,000 at most.
+/// Judges the records of a text against this count as a loading would. Writes a line for each record that would be refused,
+/// and then the forecast. It holds one record at a time, and at most 1,000 rows that no later record may repeat.
 pub fn write_judgement<R: Read, W: Write>(
     alloc: Global,
     count: &Count<'_>,
@@ -262,7 +262,7 @@ pub fn write_judgement<R: Read, W: Write>(
     ensures read { IsErrOf result JudgementFault.Read → has_failed text.new ≡ true }
 {
     match judge_records(alloc, count, &mut *text, out) {
-        // A read that fails is noted, so here it was memory that was refused.
+        // A failed read is noted. This one is not, so the error was refused memory.
         Err(JudgementFault::Read) if !text.has_failed() => Err(JudgementFault::Memory),
         judged => judged,
     }

@@ -1,4 +1,4 @@
-//! Laws of an office on a disk, and of forecasts.
+//! Laws about an office on a disk, and about forecasts.
 
 ghost use Rattle.std.specs.Prelude.{◌≡◌, ℕ, List, Option, Bool, false, IsTrue, ◌<◌, ◌+◌, ◌⊎◌, [], Some, get_or, length, slice_get, take};
 ghost use Rattle.zh_office.specs.declared.answer.Answer.{Answer};
@@ -18,27 +18,27 @@ ghost use Rattle.zh_office.specs.Answered.{IsAnswered, IsByJudgement};
 ghost use Rattle.zh_office.specs.Findings.{finding_on, findings, findings_on, forecast_of, rows_after, rows_kept};
 ghost use Rattle.zh_office.specs.Rows.{row_in};
 
-/// What a run of lines leaves of an office on an honest disk, at each moment and at its end.
+/// What a run of lines does to an office and its honest disk, at each moment and at the end.
 pub fn stretches()
     ensures { (old : OnDisk Office) (lines : List (List ℕ)) (out : List ℕ) (log : Log) (new : OnDisk Office)
         → IsTrue new.history.honest → Runs old lines out log new → IsLogged (its_ledger old) log (its_ledger new) }
 {}
 
-/// A night of lines, loaded texts, stops and openings on an honest disk that was formatted for the office, event by event.
+/// A night event by event: lines, loaded texts, stops and openings on an honest disk that was formatted for the office.
 ///
-/// Each image of the disk stands for the count after all commands that were accepted since the last opening, or after
-/// all but the last, which then nobody acknowledged. So each opening finds, stretch by stretch, the first of the
-/// accepted commands, in order, among them all that were acknowledged, and each once. An opening is refused only for
-/// memory or by the device.
+/// Each image of the disk holds the count after all commands that were accepted since the last opening, or after all but
+/// the last, which was then not acknowledged. So each opening finds a prefix of the commands that were accepted since the
+/// opening before it, in order and each once. The prefix includes all that were acknowledged. An opening is refused only
+/// for memory or by the device.
 pub fn law_nights()
     ensures { OfficeLaw }
 {}
 
-/// An office with a slot of format Two that had met no fault of the device, under which no call of its disk fails, and
-/// whose numbers are not used up, answers no line and no text with `device`, `reopen-disk` or `spent`, and goes on so.
-/// Only `row`, `sheet`, `final` and a loading can be answered with `memory`.
+/// Take an office that has a slot of format Two and has met no fault of the device. If no call of its disk fails and its
+/// numbers are not used up, it answers no line and no text with `device`, `reopen-disk` or `spent`, and its disk need not
+/// be reopened. Only `row`, `sheet`, `final` and a loading can be answered with `memory`.
 ///
-/// This holds on every disk, whether it keeps its word or not.
+/// This holds on every disk, honest or not.
 pub fn undisturbed()
     ensures line { (old : OnDisk Office) (bytes : List ℕ) (answer : Answer) (new : OnDisk Office) (turn : Turn old bytes answer new)
         → MeetsNoFault old new → IsUndisturbed turn.reading answer × (new.holder.ledger.store.broken ≡ false) }
@@ -50,17 +50,17 @@ pub fn undisturbed()
         → (is_disturbed (answers.Reply reply) ≡ false) × (new.holder.ledger.store.broken ≡ false) }
 {}
 
-/// A text whose records these are is answered by a loading as its forecast says: stored, the same, or refused. Left aside are
-/// a reader that fails, refused memory, a device that fails, and numbers that are used up. The forecast is right too where a
-/// record is too long, and the text is read no further.
+/// A loading of a text with these records is answered as the forecast says: stored, the same, or refused. This excludes a
+/// reader that fails, refused memory, a device that fails, and numbers that are used up. The forecast is also right if a
+/// record is too long, so that the text is read no further.
 pub fn forecast_is_kept()
     ensures { (old new : OnDisk Office) (text : List ℕ) (records : List Record) (reply : Reply)
         → LoadTurn old (Some text) false reply new → (AreAll text records ⊎ AreAll (front_of text) records) → IsByJudgement reply
         → IsAnswered (forecast_of (findings old.holder.ledger.tally records)) reply }
 {}
 
-/// Each record after the first is judged after the rows that are kept of those before it; and one row more is kept of it, or
-/// none.
+/// Each record after the first is judged after the rows that are kept of the records before it. At most one more row is
+/// kept of it.
 pub fn each_is_judged_after_those_before()
     ensures judged { (tally : Tally) (others : List Record) (k : ℕ) → k < length others
         → slice_get (findings_on tally others) k ≡ Some (finding_on tally others k) }

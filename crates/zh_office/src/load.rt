@@ -17,10 +17,10 @@ use zh_csv::{LoadFault, NotedReader, read_batch};
 use zh_disk::Disk;
 use zh_returns::Batch;
 
-/// The desk of what no desk sent.
+/// The desk number of a batch that no desk sent.
 const NO_DESK: u8 = 0;
 
-/// The name under which a text is refused, or a row of a desk.
+/// The refusal of a text, or of a desk's row, for this fault.
 pub(crate) fn load_refusal(fault: LoadFault) -> Refusal
     ensures { result ≡ load_refusal fault }
 {
@@ -34,12 +34,13 @@ pub(crate) fn load_refusal(fault: LoadFault) -> Refusal
 }
 
 impl<'s> Office<'s> {
-    /// Loads the returns of a comma-separated text as one batch, under no desk: it is stored whole, or not at all.
+    /// Loads the returns of a comma-separated text as one batch that belongs to no desk. The batch is stored as a whole or
+    /// not at all.
     ///
-    /// The text is read record by record, and no further than up to the record that decides, but for what the crate `csv`
-    /// reads ahead. After a fault of the device nothing is read.
+    /// The text is read record by record, only up to the record that decides, apart from what the crate `csv` reads ahead.
+    /// After a fault of the device nothing is read.
     pub fn load<R: Read, D: Disk>(&mut self, disk: &mut D, reader: &mut NotedReader<R>) -> Reply
-        // While the disk is honest the turn also says what each image holds at each moment since the call began.
+        // While the disk is honest, the turn also says what each image holds at each moment since the call began.
         ensures turn { LoadTurn (on_disk self.old (D.history disk.old))
             (R.remaining (inner_reader reader.old)) (has_failed reader.new) result
             (on_disk self.new (D.history disk.new)) }

@@ -29,22 +29,22 @@ use zh_record_text::RecordFault;
 use zh_returns::Count;
 use zh_totals::Totals;
 
-/// The bytes of the rows of a batch: 1,000 of 11 bytes.
+/// The bytes of the rows of a batch: 1,000 rows of 11 bytes.
 const ROWS_LENGTH: usize = 11_000;
 
-/// The count of an election, kept on a disk, and the desks that change it.
+/// The count of an election on a disk, and the desks that change it.
 ///
-/// The disk is handed to each call, and must be the one that the office was opened on. After a fault of the device the
-/// office answers `reopen-disk` until a new one is opened there.
+/// Each call takes the disk, which must be the one that the office was opened on. After a fault of the device the office
+/// answers `reopen-disk`, until a new office is opened on the disk.
 #[derive(Drop)]
 pub struct Office<'s> {
-    // the count on its disk, which is handed to each call
+    // the count; each call takes its disk
     pub(crate) ledger: Ledger<'s>,
-    // the desks, with their batches
+    // the desks with their batches
     pub(crate) desks: Desks,
-    // where rows and sheets take their memory
+    // where rows and sheets are allocated
     pub(crate) alloc: Global,
-    // room for the rows of a batch that is submitted
+    // room for the rows of a batch that is being submitted
     pub(crate) rows: Vec<u8>,
 }
 
@@ -72,7 +72,7 @@ fn row_bytes(alloc: Global) -> Result<Vec<u8>, AllocError>
 }
 
 impl<'s> Office<'s> {
-    /// Makes a disk one on which nothing has been returned yet, whatever stands there, as `Ledger::format` does.
+    /// Formats a disk, whatever it contains, so that nothing has been returned on it, as `Ledger::format` does.
     pub fn format<D: Disk>(alloc: Global, setup: &Setup, disk: &mut D) -> Result<(), FormatFault>
         ensures call { Call store_format_fails (MakesNew setup.now) (D.history disk.old) (D.history disk.new) result }
         ensures untouched { IsErrOf result FormatFault.Memory → disk.new ≡ disk.old }
@@ -80,14 +80,13 @@ impl<'s> Office<'s> {
         Ledger::format(alloc, setup, disk)
     }
 
-    /// Opens the office that a disk holds, as `Ledger::open` does. All memory is taken before the first call of the
-    /// device.
+    /// Opens the office on a disk, as `Ledger::open` does. All memory is allocated before the first call of the device.
     pub fn open<D: Disk>(
         alloc: Global,
         setup: &'s Setup,
         disk: &mut D,
     ) -> Result<Office<'s>, OpenFault>
-        // While the disk is honest this also says what each image is at each moment since the call began.
+        // While the disk is honest, this also says what each image is at each moment since the call began.
         ensures opening { Opening setup.now (D.history disk.old) (D.history disk.new) (ledger_of_opened result) }
 
         // No desk has a batch yet.
@@ -105,33 +104,33 @@ impl<'s> Office<'s> {
         })
     }
 
-    /// The count as it is now.
+    /// The current count.
     pub fn count(&self) -> &Count<'s>
         ensures { result.now ≡ self.now.ledger.tally }
     {
         self.ledger.count()
     }
 
-    /// The votes of each group in each constituency, of the count as it is now.
+    /// The votes of each group in each constituency, in the current count.
     pub fn totals(&self) -> &Totals<'s>
         ensures { result.now ≡ totals_of self.now.ledger.tally }
     {
         self.ledger.totals()
     }
 
-    /// Whether the device failed under this office, so that the disk must be opened again.
+    /// Whether the device failed under this office, so that the disk must be reopened.
     pub fn faulted(&self) -> bool
         ensures { result ≡ self.now.ledger.store.broken }
     {
         self.ledger.is_broken()
     }
 
-    /// Answers a line, given without its LF. Only the lines `row`, `sheet` and `final` may take memory.
+    /// Answers a line, given without its LF. Only the lines `row`, `sheet` and `final` can take memory.
     ///
-    /// An accepted command is on the disk before it is answered `stored`. After `device` the disk may hold it or not,
+    /// An accepted command is on the disk before it is answered `stored`. After `device` the disk may or may not hold it,
     /// and the count is without it.
     pub fn line<D: Disk>(&mut self, disk: &mut D, bytes: &[u8]) -> Answer<'s>
-        // While the disk is honest the turn also says what each image holds at each moment since the call began.
+        // While the disk is honest, the turn also says what each image holds at each moment since the call began.
         ensures turn { Turn (on_disk self.old (D.history disk.old)) bytes.now result (on_disk self.new (D.history disk.new)) }
 
         ensures others { (desk : Desk) → desk.number ≢ desk_of bytes.now → rows_of self.new.held desk ≡ rows_of self.old.held desk }
@@ -144,7 +143,7 @@ impl<'s> Office<'s> {
         }
     }
 
-    /// Writes what is held as comma-separated text, by municipality and then list, and gives the writer back.
+    /// Writes the returns as comma-separated text, ordered by municipality and then by list, and returns the writer.
     pub fn export<W: Write + Drop>(&self, writer: W) -> Result<W, RecordFault>
         ensures { IfOk result (λ after. Appends (W.contents writer) (W.contents after) (export_text self.now.ledger.tally)) }
     {

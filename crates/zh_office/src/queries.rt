@@ -1,4 +1,4 @@
-//! Answers to what a desk asks about the count.
+//! Answers to a desk's queries about the count.
 
 ghost use Rattle.std.specs.Prelude.{◌≡◌, IfErr, MatchOption};
 ghost use Rattle.zh_office.specs.Answers.{MayAnswerQuery, shown, answer_to_show, answer_to_last};
@@ -27,7 +27,7 @@ impl<'s> Office<'s> {
         }
     }
 
-    /// Answers with a sheet, or with why there is none.
+    /// Answers with a sheet, or with the reason why there is none.
     fn answer_with_sheet(&self, is_final: bool) -> Answer<'s>
         ensures { MayAnswerSheet self.now.ledger.tally is_final result }
     {
@@ -37,8 +37,7 @@ impl<'s> Office<'s> {
         }
     }
 
-    /// The sheet of the count as it is now, or why there is none. The final one is given only where every municipality is
-    /// closed.
+    /// The sheet of the current count, or why there is none. The final sheet is given only if every municipality is closed.
     pub fn sheet(&self, is_final: bool) -> Result<Sheet<'s>, NotGiven>
         ensures answer { MayAnswerSheet self.now.ledger.tally is_final (sheet_answer is_final result) }
         ensures why { IfErr result (IsWhy self.now.ledger.tally) }
@@ -58,16 +57,16 @@ impl<'s> Office<'s> {
     }
 }
 
-/// Why an office gives no sheet.
+/// Why the office gives no sheet.
 #[derive(Drop)]
 pub enum NotGiven {
-    /// The final sheet waits for this municipality, the lowest that is open.
+    /// The final sheet waits for this municipality, the lowest-numbered open one.
     NotClosed(u32),
-    /// There is none of these votes.
+    /// These votes have no sheet.
     NoSheet(NoSheet),
 }
 
-/// The refusal of the line that asks for it.
+/// The refusal of a line that asks for a sheet.
 fn refusal_of(why: NotGiven) -> Refusal
     ensures { result ≡ refusal_of why }
 {
@@ -77,7 +76,7 @@ fn refusal_of(why: NotGiven) -> Refusal
     }
 }
 
-/// The name under which a sheet is refused whose making met this fault.
+/// The refusal of a sheet for this fault in making it.
 fn sheet_refusal(fault: SheetFault) -> Refusal
     ensures { result ≡ sheet_refusal fault }
 {
@@ -87,7 +86,7 @@ fn sheet_refusal(fault: SheetFault) -> Refusal
     }
 }
 
-/// The lowest municipality that is open, if one is.
+/// The lowest-numbered open municipality, if there is one.
 fn first_open(count: &Count<'_>) -> Option<u32>
     ensures { MatchOption result (AreClosed count.now) (IsFirstOpen count.now) }
 {
@@ -121,7 +120,7 @@ fn shown(entry: Option<Entry>) -> Reply
     }
 }
 
-/// What is held of a list in a municipality.
+/// The answer to `show`: what the count holds of a list in a municipality.
 fn answer_to_show(count: &Count<'_>, municipality: u32, list: u32) -> Reply
     ensures { result ≡ answer_to_show count.now municipality list }
 {

@@ -22,7 +22,7 @@ use zh_film::Film;
 use zh_sheet_text::write_sheet;
 use zh_text::{WriteFault, put};
 
-/// How many bytes a read asks for at most.
+/// The most bytes that a read asks for.
 const BLOCK: usize = 8192;
 
 /// Why serving ended before the end of the input.
@@ -31,14 +31,14 @@ const BLOCK: usize = 8192;
 pub enum ServeFault {
     /// The reader failed.
     Read,
-    /// The writer failed, or took no byte.
+    /// The writer failed or took no byte.
     Write,
-    /// The allowed number of reads was made before the input ended.
+    /// All allowed reads were made before the input ended.
     Turns,
 }
 
 impl ServeFault {
-    /// Its name, as reports spell it.
+    /// Its name in reports.
     pub fn name(self) -> &'static str
         ensures name { result.now ≡ serving_name self }
         ensures short { length result.now ≤ 5 }
@@ -60,7 +60,7 @@ impl From<WriteFault> for ServeFault {
 }
 
 impl<'s> Office<'s> {
-    /// Writes an answer under the desk that asked.
+    /// Writes an answer under the number of the desk that asked.
     fn write_answer<W: Write>(
         &self,
         desk: u8,
@@ -82,7 +82,7 @@ impl<'s> Office<'s> {
         }
     }
 
-    /// Answers a line, and then writes the answer under the desk that asked.
+    /// Answers a line, then writes the answer under the number of the desk that asked.
     fn answer<R: Read, W: Write, D: Disk>(
         &mut self,
         bytes: &[u8],
@@ -106,7 +106,8 @@ impl<'s> Office<'s> {
         Ok(())
     }
 
-    /// Answers the lines that end in a block of bytes after those of `line`, and keeps the bytes of the line after them.
+    /// Answers the lines that end in a block, the first of which begins with `line`, and keeps the bytes of the line after
+    /// them.
     fn take_block<R: Read, W: Write, D: Disk>(
         &mut self,
         line: &mut PartialLine,
@@ -144,7 +145,7 @@ impl<'s> Office<'s> {
         Ok(count)
     }
 
-    /// Answers a last line that has not ended, if it has a byte, and returns how many lines that is.
+    /// Answers the last line, which has not ended, if it has a byte. Returns how many lines that is.
     fn finish<R: Read, W: Write, D: Disk>(
         &mut self,
         line: &PartialLine,
@@ -172,15 +173,15 @@ impl<'s> Office<'s> {
         Ok(1)
     }
 
-    /// Answers the lines of a reader until its end, in at most so many reads of up to 8,192 bytes. It gives the number
-    /// of lines.
+    /// Answers the lines of a reader until its end, in at most `turns` reads of up to 8,192 bytes. Returns the number of
+    /// lines.
     ///
-    /// After an error of the reader, or where the end of the input was not met, the lines that were ended by then are
-    /// answered, and a line that was not ended is not. After an error of the writer a front of the answers is written.
-    /// An interrupted read or write is an error.
+    /// If the reader fails, or the reads are used up before the end of the input, the lines that had ended by then are
+    /// answered, and a line that had not ended is not. If the writer fails, a prefix of the answers is written. An
+    /// interrupted read or write is an error.
     ///
-    /// The film, which shows nothing yet, notes the order of it all: each line is done on the disk before its answer is
-    /// written, and each is answered before the next one is done, and before more is read.
+    /// The film, which must be empty, notes the order of these events: the disk has carried out a line before its answer is
+    /// written, and a line is answered before the next one is carried out and before more is read.
     pub fn serve<R: Read, W: Write, D: Disk>(
         &mut self,
         reader: &mut R,
@@ -210,12 +211,13 @@ impl<'s> Office<'s> {
             (R.remaining reader.old) (frames R.Read W.Write D.Disk film.old))
             (session (W.contents writer.new) self.new (D.history disk.new)
             (R.remaining reader.new) (frames R.Read W.Write D.Disk film.new)) }
-        // The last read failed exactly where it ends with that fault.
+        // The film's last note is of a failed read exactly if serving ends with that fault.
         ensures failed { HasFailedRead (frames R.Read W.Write D.Disk film.new) ↔ IsErrOf result ServeFault.Read }
-        // However it ends: the history of the disk goes on from that before, and none of its failures is forgotten.
+        // However serving ends, the history of the disk continues from the one before, and its count of failures does not
+        // fall.
         ensures disk { Continues (on_disk self.old.ledger (D.history disk.old)) (on_disk self.new.ledger (D.history disk.new)) }
-        // As many reads as were allowed are made where it ends with that fault, and never more. Each but the last took a byte at
-        // least.
+        // If serving ends for lack of reads, all allowed reads were made. It never makes more. Each read takes at least one
+        // byte, except possibly the last.
         ensures enough { IsErrOf result ServeFault.Turns → MakesAllReads (frames R.Read W.Write D.Disk film.new)
             (R.remaining reader.old) (R.remaining reader.new) turns }
         ensures most { OnOk result (EndsWithinReads (frames R.Read W.Write D.Disk film.new)
@@ -244,7 +246,7 @@ impl<'s> Office<'s> {
     }
 }
 
-/// Room for a read.
+/// Room for one read.
 fn blank_block() -> [u8; BLOCK] {
     [0; BLOCK]
 }

@@ -1,4 +1,4 @@
--- What is answered where both texts were read.
+-- The answer if both texts were read.
 use Rattle.std.proofs.Common.{ℕ, List}
 use Rattle.zh_verdicts.specs.Checks.{Inputs}
 use Rattle.zh_page.specs.Answers.{AreTextsOf, IsVerdictOn, AnswersPage, Texts}

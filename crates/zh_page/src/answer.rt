@@ -1,4 +1,4 @@
-//! What a page is answered, and how it is handed over.
+//! The answer to a page, and its transfer into the page's memory.
 ghost use Rattle.std.specs.Option.{option_copied};
 ghost use Rattle.std.specs.Prelude.{◌≡◌};
 ghost use Rattle.zh_page.specs.Answers.{IsHanded};
@@ -6,40 +6,40 @@ ghost use Rattle.zh_page.specs.Answers.{IsHanded};
 use crate::checked::check_texts;
 use std::alloc::Global;
 
-/// What the texts that a page handed in came to.
+/// The result of a check, given the texts of a page.
 #[derive(Clone, Copy, Debug, PartialEq, Eq)]
 pub enum PageStatus {
     /// The sheet is right.
     Right,
     /// The sheet is wrong.
     Wrong,
-    /// The text is no set-up.
+    /// The text of the set-up is not a set-up.
     NoSetup,
-    /// The text is no export of this set-up.
+    /// The text of the export is not an export of this set-up.
     NoRows,
-    /// Memory was refused.
+    /// An allocation was refused.
     Memory,
 }
 
-/// What a page is answered: a status, and with it a text, which is the verdict on a sheet that is right or wrong, and else the
-/// report of a fault as the program makes it. It is empty where memory was refused.
+/// The answer to a page: a status and a text. For a right or a wrong sheet the text is the verdict. Otherwise it is the
+/// same report of the fault as the program's; it is empty if an allocation was refused.
 #[derive(Drop)]
 pub struct PageAnswer {
     pub status: PageStatus,
     pub text: Vec<u8>,
 }
 
-/// Whether an answer was handed over.
+/// Whether an answer was transferred.
 #[derive(Clone, Copy, Debug, PartialEq, Eq)]
 pub enum HandedStatus {
-    /// It was, with this status.
+    /// The whole text was transferred, and this is the answer's status.
     Whole(PageStatus),
-    /// The room is too small for its text, and nothing was.
+    /// The room is too small for the text. Nothing was written to it.
     NoRoom,
 }
 
-/// Checks a sheet, as [`check_texts`] does, and puts the text of the answer into the first bytes of the room. The count is its
-/// length, also where the room is too small.
+/// Checks a sheet like [`check_texts`] and copies the text of the answer to the front of `room`. `count` gets the
+/// length of the text, even if the room is too small.
 pub fn hand_over(
     alloc: Global,
     setup: &[u8],

@@ -1,4 +1,4 @@
-//! The check of texts.
+//! The check of a sheet, given as texts.
 
 ghost use Rattle.std.specs.Prelude.{◌≡◌, [], take};
 ghost use Rattle.std.specs.Option.{option_copied};
@@ -11,7 +11,7 @@ use zh_districts::Setup;
 use zh_setups::{SetupFault, SetupRefusal, read_setup};
 use zh_verdicts::{SHEET_FRONT, SpelledVerdict, rows_report, setup_report, spelled_verdict};
 
-/// As much of a sheet as is looked at.
+/// The part of a sheet's text that is read.
 fn front_of(sheet: &[u8]) -> &[u8]
     ensures { result.now ≡ take 280065 sheet.now }
 {
@@ -21,7 +21,7 @@ fn front_of(sheet: &[u8]) -> &[u8]
     &sheet[..SHEET_FRONT]
 }
 
-/// The sums of an export, where there is one.
+/// The sums of an export, if there is one.
 fn sums_if_given<'s>(
     alloc: Global,
     setup: &'s Setup,
@@ -38,7 +38,7 @@ fn sums_if_given<'s>(
     }
 }
 
-/// The answer where memory was refused.
+/// The answer if an allocation was refused.
 fn no_memory(alloc: Global) -> PageAnswer
     ensures status { result.status ≡ PageStatus.Memory }
     ensures empty { result.text.items ≡ [] }
@@ -49,7 +49,7 @@ fn no_memory(alloc: Global) -> PageAnswer
     }
 }
 
-/// The answer on a text that is no set-up.
+/// The answer for a text that is not a set-up.
 fn no_setup(alloc: Global, refusal: &SetupRefusal) -> PageAnswer
     ensures { IsNoSetup refusal.now result.status result.text.items }
 {
@@ -65,7 +65,8 @@ fn no_setup(alloc: Global, refusal: &SetupRefusal) -> PageAnswer
     }
 }
 
-/// The answer on a text that is no export. In memory no read fails, so what is no fault of a record is one of memory.
+/// The answer for a text that is not an export. A read from memory can't fail, so a fault that is not of a record means
+/// that memory was refused.
 fn no_rows(alloc: Global, fault: LoadFault) -> PageAnswer
     ensures { AreNoRows fault result.status result.text.items }
 {
@@ -81,7 +82,7 @@ fn no_rows(alloc: Global, fault: LoadFault) -> PageAnswer
     }
 }
 
-/// The answer on a sheet.
+/// The answer for a sheet: its verdict.
 fn verdict_on(alloc: Global, setup: &Setup, sheet: &[u8], held: Option<&HeldSums<'_>>) -> PageAnswer
     ensures { IsVerdictOn (record { canton = setup.now; sheet = take 280065 sheet.now; held = option_copied held.entry })
         result.status result.text.items }
@@ -109,7 +110,7 @@ fn verdict_on(alloc: Global, setup: &Setup, sheet: &[u8], held: Option<&HeldSums
     }
 }
 
-/// Checks a sheet by the texts of a set-up and of an export, if there is one, as `zhcount check` checks it by their files.
+/// Checks a sheet, given the texts of a set-up and of an export if there is one, as `zhcount check` does with files.
 pub fn check_texts(alloc: Global, setup: &[u8], sheet: &[u8], held: Option<&[u8]>) -> PageAnswer
     ensures { AnswersPage (record { setup = setup.now; sheet = sheet.now; held = option_copied held.entry })
         result.status result.text.items }

@@ -1,4 +1,4 @@
-//! What the module exports.
+//! The function that the module exports.
 
 ghost use Rattle.std.specs.Prelude.{◌≡◌, ◌≤◌};
 ghost use Rattle.zh_page.specs.Answers.{IsHanded};
@@ -9,12 +9,12 @@ ghost use Rattle.zh_page_module.specs.Given.{texts_given};
 use std::alloc::Global;
 use zh_page::{HandedStatus, PageStatus, hand_over};
 
-/// Checks a sheet by the texts of a set-up and, where `is_held`, of an export. The text of the answer is put into the room, and its
-/// length into the count.
+/// Checks a sheet, given the texts of a set-up and, if `is_held`, of an export. The text of the answer is copied to the
+/// front of `room`, and `count` gets its length.
 ///
-/// Returns 0 if the sheet is right and 1 if it is wrong, with its verdict; 2 if the text is no set-up and 3 if it is no export of
-/// this set-up, with the report of its fault; 4 if memory was refused, with no
-/// text; and 5 if the room is too small, which is then untouched.
+/// Returns 0 if the sheet is right and 1 if it is wrong, with its verdict. Returns 2 if the first text is not a set-up
+/// and 3 if the last one is not an export of this set-up, with the report of the fault. Returns 4 if an allocation was
+/// refused, without a text. Returns 5 if the room is too small; then nothing is written to it.
 #[unsafe(no_mangle)]
 pub extern "C" fn check_sheet(
     alloc: Global,

@@ -1,5 +1,5 @@
--- What an answer says that is a sheet, or reports a tie. To a line without a command it is one of a few, which are gone through one
--- by one; to a command it is the report of an outcome, which is neither.
+-- What a sheet, or a report of a tie, says about the count. A line without a command has few possible answers, which are
+-- checked one by one; the answer to a command reports an outcome, which is neither of the two.
 use Rattle.std.proofs.Common.{◌≡◌, ◌≢◌, ℕ, Bool, true, false, Option, Some, None, Result, Ok, Err, refl, sym, subst}
 use Rattle.zh_returns.specs.declared.command.Command.{Command}
 use Rattle.zh_returns.specs.Tally.{Tally}
@@ -33,25 +33,25 @@ use Rattle.zh_office.specs.Office.{MayAnswer, Office}
 use Rattle.zh_program.specs.Sheets.{FollowsFrom, IsTie}
 use Rattle.zh_program.proofs.TieLemmas.{tied_above, tied_seats}
 
--- what an answer says of these totals
+-- What an answer says about these totals.
 pub record IsFair (totals : VoteTotals) (answer : Answer) : Type 0 where
   pub sheet : (sheet : Distribution) (is_final : Bool) → answer ≡ answers.Sheet sheet is_final → FollowsFrom totals sheet
   pub tie : IsTie answer → LeaveNoSeats totals
 
--- and one to what gives no command stores nothing
+-- And what gives no command is not answered `stored`.
 pub record StoresNone (totals : VoteTotals) (answer : Answer) : Type 0 where
   pub fair : IsFair totals answer
   pub unstored : (number : ℕ) → answer ≢ answers.Reply (Stored number)
 
--- so is each answer that may be given
+-- Every answer that may be given stores nothing.
 abbrev pub AllStoreNone : VoteTotals → (Answer → Type 0) → Type 0
 AllStoreNone totals May = (answer : Answer) → May answer → StoresNone totals answer
 
--- a reply that reports no tie
+-- A reply that does not report a tie.
 fair_reply : (totals : VoteTotals) (reply : Reply) → ¬ IsTie (answers.Reply reply) → IsFair totals (answers.Reply reply)
 fair_reply totals reply none = record { sheet = λ sheet is_final is. absurd cc; tie = λ tie. absurd (none tie) }
 
--- an answer that reports a tie, or that something is stored
+-- The answer reports a tie, or that something is stored.
 abbrev pub IsMarked : Answer → Type 0
 IsMarked (answers.Reply (Stored number)) = Unit {0}
 IsMarked answer = IsTie answer
@@ -60,7 +60,7 @@ tie_marked : (reply : Reply) → IsTie (answers.Reply reply) → IsMarked (answe
 tie_marked (Stored number) tie = absurd tie
 tie_marked reply tie = tie
 
--- a reply that reports neither
+-- A reply that reports neither.
 pub plain : (totals : VoteTotals) (reply : Reply) → ¬ IsMarked (answers.Reply reply) → StoresNone totals (answers.Reply reply)
 plain totals reply none = record {
   fair = fair_reply totals reply (λ tie. none (tie_marked reply tie));
@@ -70,14 +70,14 @@ plain totals reply none = record {
 pub same_fair : (totals : VoteTotals) (a b : Answer) → a ≡ b → StoresNone totals b → StoresNone totals a
 same_fair totals a b is fair = subst (StoresNone totals) (sym is) fair
 
--- a reply to what gives no command, where there is no sheet
+-- A reply to what gives no command, if there is no sheet.
 tie_fair : (totals : VoteTotals) (reply : Reply)
     → ((number : ℕ) → answers.Reply reply ≢ answers.Reply (Stored number))
     → LeaveNoSeats totals
     → StoresNone totals (answers.Reply reply)
 tie_fair totals reply other none = record { fair = record { sheet = λ sheet is_final is. absurd cc; tie = λ tie. none }; unstored = other }
 
--- a sheet, or why there is none
+-- The reply for each fault of a sheet.
 fault_fair : (totals : VoteTotals) (fault : SheetFault) → IsMade totals (Err fault) → StoresNone totals (answers.Reply (Refused (sheet_refusal fault)))
 fault_fair totals (faults.Refused sheets.TiedSeats) made = tie_fair totals _ (λ number is. absurd cc) (tied_seats totals made.refused.refused.holds)
 fault_fair totals (faults.Refused (sheets.NoUpperSeats uppers.Tied)) made = tie_fair totals _ (λ number is. absurd cc) (tied_above totals made.refused.refused.holds)
@@ -106,7 +106,7 @@ given_fair : (tally : Tally) (is_final : Bool) → AllStoreNone (totals_of tally
 given_fair tally is_final answer (made, is, same) =
     same_fair (totals_of tally) answer (answer_with is_final made) same (made_fair (totals_of tally) is_final made is)
 
--- a plain reply reports neither
+-- A plain reply reports neither a tie nor that something is stored.
 plain_unmarked : (reply : Reply) → is_plain reply ≡ true → ¬ IsMarked (answers.Reply reply)
 plain_unmarked (Stored number) is marked = absurd (cc)
 plain_unmarked (Refused (refusals.Judged reason)) is marked = absurd marked
@@ -116,7 +116,7 @@ plain_unmarked (Refused refusals.BatchOpen) is marked = absurd marked
 plain_unmarked (Refused refusal) is marked = absurd (cc)
 plain_unmarked reply is marked = absurd marked
 
--- the answers to a line without a command
+-- The answers to lines without a command.
 answered_fair : (tally : Tally) → HoldsWithoutCommand tally (λ request answer. StoresNone (totals_of tally) answer)
 answered_fair tally = record {
   plain = λ request reply is. plain (totals_of tally) reply (plain_unmarked reply is);
@@ -125,7 +125,7 @@ answered_fair tally = record {
   final = given_fair tally true;
 }
 
--- the report of an outcome
+-- The report of an outcome is not a tie.
 outcome_plain : (outcome : Outcome) → ¬ IsTie (answers.Reply (reply_to outcome))
 outcome_plain (outcomes.Stored number) = λ no. no
 outcome_plain outcomes.Same = λ no. no
@@ -145,7 +145,7 @@ may_fair office (Err lines.Syntax) answer may = same_fair _ answer _ may (plain 
 may_fair office (Err lines.Desk) answer may = same_fair _ answer _ may (plain (totals_of office.ledger.tally) _ (λ no. no))
 may_fair office (Ok line) answer may = where_fair office.ledger.store.broken office.ledger.tally office.held line answer may
 
--- What is done in answer is fair to the count after it.
+-- An answer is true of the count after it.
 pub acts_fair : (old new : OnDisk Ledger) (command : Option Command) (May : Answer → Type 0) (answer : Answer) (more : Log)
     → AllStoreNone (totals_of old.holder.tally) May
     → Acts old command May answer more new
@@ -156,7 +156,7 @@ acts_fair old new (Some command) May answer more fair (by, logs) =
     let totals = totals_of new.holder.tally in
     subst (IsFair totals) (sym by.reply) (fair_reply totals (reply_to by.outcome) (outcome_plain by.outcome))
 
--- `stored` is the answer to a command.
+-- Only a command is answered `stored`.
 pub acts_stored : (old new : OnDisk Ledger) (command : Option Command) (May : Answer → Type 0) (answer : Answer) (more : Log)
     → AllStoreNone (totals_of old.holder.tally) May
     → Acts old command May answer more new

@@ -1,5 +1,5 @@
--- What is kept by an office that was opened on a disk, or refused: the headline, where a count stood on the disk, and no exchange,
--- where none did. What holds of the opening, of each exchange since and of the end is put together.
+-- What is kept by an office that was opened or refused on a disk: the headline if the disk held a count, and no exchanges if it
+-- held none. The parts for the opening, for each exchange and for the end are combined here.
 use Rattle.std.proofs.Common.{◌≡◌, ℕ, List, [], Ok, Err, IsTrue, refl, sym, ◌∙◌, ap, subst}
 use Rattle.zh_disk.specs.Disk.{Trail, Leaves, fresh_trail}
 use Rattle.zh_disk.specs.History.{History}
@@ -24,23 +24,23 @@ use Rattle.zh_program.proofs.TalkLemmas.{talking}
 use Rattle.zh_program.proofs.TurnLemmas.{AreTurns, AtRest, IsAt, at_rest}
 use Rattle.zh_ledger.proofs.CallerLemmas.{has_none}
 
--- so it is where the disk was honest, and began with bytes that hold a count within the limits
+-- P for every count within the limits that an honest disk's first bytes hold.
 abbrev pub WhereHeld : History → History → (Tally → List ℕ → Type 0) → Type 0
 WhereHeld first last P = IsTrue last.honest → (bytes : List ℕ) → first.trail ≡ fresh_trail bytes
     → (tally : Tally) → IsCanton tally.canton → Holds tally bytes → P tally bytes
 
--- and so where it began with bytes in which no such count stands
+-- P where an honest disk began with bytes that hold no such count.
 abbrev pub WhereNoneStood : History → History → Type 0 → Type 0
 WhereNoneStood first last P = IsTrue last.honest → (bytes : List ℕ) → first.trail ≡ fresh_trail bytes
     → ((tally : Tally) → IsCanton tally.canton → ¬ HoldsFramed tally bytes) → P
 
--- what is kept of a disk that began with the one history and has the other, where these exchanges came after its opening, in this
--- conversation; and where no count stood there were none
+-- What is kept of a disk that began with the one history and has the other, when these exchanges came after its opening in this
+-- conversation. If the disk held no count, there were none.
 pub record Keeps (canton : Canton) (first last : History) (talk : Conversation) (xs : List Exchange) : Type 0 where
   pub on_a_count : WhereHeld first last (λ tally bytes. Headline tally (fresh_trail bytes) talk xs)
   pub idle : WhereNoneStood first last (xs ≡ [])
 
--- how an office goes on from its start
+-- How an office goes on from its start.
 abbrev pub GoesOnTo : OnDisk Office → List Exchange → OnDisk Office → Type 0
 GoesOnTo start xs end = (tally : Tally) → IsTrue end.history.honest → IsAt tally start.history.trail [] start
     → AreTurns tally start.history.trail [] xs × IsAt tally start.history.trail xs end
@@ -69,11 +69,11 @@ opened_keeps canton first last start end xs old new limits from goes told = reco
         let opens = subst (λ (t : Trail). Opens canton (Ok start.holder.ledger) t start.history.trail) fresh did in
         absurd (none start.holder.ledger.tally (subst IsCanton (sym from.begun.opening.ready.set_up) limits) opens.opened.stood)
 
--- an office to which nothing is given
+-- An office to which nothing is given.
 pub nothing_given : (start : OnDisk Office) → GoesOnTo start [] start
 nothing_given start tally honest at = (at_rest tally start.history.trail [] start at, at)
 
--- a disk of which each image still holds the count
+-- A disk on which every image still holds the count.
 pub unchanged_keeps : (canton : Canton) (first last : History) (old new : Streams)
     → IsTold [] (talking old new last.trail last.trail)
     → WhereHeld first last (λ tally bytes. Always (Holds tally) (fresh_trail bytes) last.trail)

@@ -1,4 +1,4 @@
--- What a dry run has done, by how it ended.
+-- What a dry run has done, by its result.
 use Rattle.std.proofs.Common.{◌≡◌, Result, Ok, Err, IfErr, refl}
 use Rattle.zh_office.specs.declared.judgement.JudgementFault.{JudgementFault}
 use Rattle.zh_office.specs.declared.judgement.JudgementFault.TheVariants as judging
@@ -11,14 +11,14 @@ use Rattle.zh_program.specs.declared.place.TaskFile.TheVariants as files
 use Rattle.zh_program.specs.declared.fault.TaskFault.{TaskFault}
 use Rattle.zh_program.specs.declared.fault.TaskFault.TheVariants as faults
 
--- the CSV file is reported where a read of it failed
+-- The CSV file is reported only if a read of it failed.
 pub read_failed : (fault : JudgementFault) (e : TaskFault) → JudgedAs fault e → e ≡ faults.Unreadable files.Csv → fault ≡ judging.Read
 read_failed judging.Memory e is file = absurd cc
 read_failed judging.Read e is file = refl
 read_failed judging.Turns e is file = absurd cc
 read_failed judging.Write e is file = absurd cc
 
--- the judging was broken off
+-- The judgement was broken off.
 pub broken_off : (Judged : Result Forecast JudgementFault → Type 0) (fault : JudgementFault) (e : TaskFault) → JudgedAs fault e → Judged (Err fault)
     → JudgesText Judged (Err e)
 broken_off Judged judging.Memory e is broken = rw is (judging.Memory, refl, broken)
@@ -26,7 +26,7 @@ broken_off Judged judging.Read e is broken = rw is (judging.Read, refl, broken)
 broken_off Judged judging.Turns e is broken = rw is (judging.Turns, refl, broken)
 broken_off Judged judging.Write e is broken = rw is (judging.Write, refl, broken)
 
--- none of its faults is one of a disk
+-- None of its faults is a fault of a disk.
 judged_calm : (fault : JudgementFault) (e : TaskFault) → JudgedAs fault e → IsOfReading e
 judged_calm judging.Memory e is = rw is tt
 judged_calm judging.Read e is = rw is tt

@@ -1,5 +1,5 @@
--- What a formatting leaves: at each moment the bytes that the disk began with or, if these were blank, blank bytes or the empty
--- count. The moments of the opening, of the closing of the gate, of the writing and of the opening of the gate are joined.
+-- What a formatting leaves: at each moment the bytes with which the disk began or, if they were blank, blank bytes or the empty
+-- count. The moments of opening the disk, closing the gate, writing, and opening the gate are joined.
 use Rattle.std.proofs.Common.{◌≡◌, ◌⊎◌, inl, inr, ⊎_elim, ℕ, List, [], ◌∷◌, ◌++◌, Result, refl, sym, ◌∙◌, ap, subst, append_assoc}
 use Rattle.std.specs.Prelude.{All}
 use Rattle.std.proofs.lemmas.List.Elements.{All-nil, All-cons, All-head, All-tail, All-append}
@@ -22,7 +22,7 @@ use Rattle.zh_program.specs.declared.fault.TaskFault.{TaskFault}
 use Rattle.zh_program.specs.Stopped.{Always}
 use Rattle.zh_program.proofs.AlwaysLemmas.{AtMoment, always_left}
 
--- the image of a formatted disk stands for the empty count
+-- The image of a formatted disk holds the empty count.
 new_holds : (canton : Canton) → IsCanton canton → (c : List ℕ) → IsFormatted (setup_spelling canton) (payload_spelling Two (empty canton)) c → IsNew canton c
 new_holds canton limits c formatted = record {
   content = record { setup = setup_spelling canton; generation = 1; snapshot = payload_spelling Two (empty canton); records = [] };
@@ -43,7 +43,7 @@ all_front : {X : Type 0} (P : X → Type 0) (xs ys : List X) → All P (xs ++ ys
 all_front P [] ys all = All-nil P
 all_front P (x ∷ xs) ys all = All-cons P x xs (All-head P x (xs ++ ys) all) (all_front P xs ys (All-tail P x (xs ++ ys) all))
 
--- one stretch of moments, and then another
+-- One range of moments, followed by another.
 always_join : (P : List ℕ → Type 0) (a b c : Trail) → Always P a b → Always P b c → Always P a c
 always_join P a b c one other = record {
   between = other.between ++ one.between;
@@ -58,7 +58,7 @@ pub now_first : (P : List ℕ → Type 0) (a b : Trail) (between : List Moment) 
 now_first P a b [] run each = let same : b.now ≡ a.now = cc in subst (AtMoment P) (sym same) (All-head (AtMoment P) a.now [] each)
 now_first P a b (m ∷ ms) run each = let same : b.now ≡ m = cc in subst (AtMoment P) (sym same) (All-head (AtMoment P) m (ms ++ a.now ∷ []) each)
 
--- at the last moment too
+-- Also at the last moment.
 pub always_now : (P : List ℕ → Type 0) (a b : Trail) → Always P a b → AtMoment P b.now
 always_now P a b always = now_first P a b always.between always.run always.each
 
@@ -69,7 +69,7 @@ module _ (canton : Canton) (limits : IsCanton canton) (first : List ℕ) where
   at_first : AtMoment Left (settled first)
   at_first c image = inl (only_image first c image)
 
-  -- the moments of the opening, and of the formatting after it
+  -- The moments of the opening, then of the formatting.
   opened_left : (opened : Trail) → Leaves (Settles first) (fresh_trail first) opened → Always Left (fresh_trail first) opened
   opened_left opened leaves = always_left (Settles first) Left (fresh_trail first) opened leaves (λ d c image by. inl by.1) at_first
 
@@ -95,7 +95,7 @@ module _ (canton : Canton) (limits : IsCanton canton) (first : List ℕ) where
       (λ formats. always_join Left (fresh_trail first) by.opened last opened (formats_left formats.0 by.opened last (always_now Left (fresh_trail first) by.opened opened) formats.1))
       by.after
 
--- a disk that held a count is left as it was
+-- A disk that held a count is left unchanged.
 pub not_formatted : (canton : Canton) (tally : Tally) (bytes : List ℕ) (result : Result (Unit {0}) TaskFault) (last : Trail)
     → Holds tally bytes
     → FormatsBlank canton result (fresh_trail bytes) last

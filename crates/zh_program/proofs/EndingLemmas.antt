@@ -1,4 +1,4 @@
--- What the program says of a task, by how it ended.
+-- What the program reports about a task, by its result.
 use Rattle.std.proofs.Common.{◌≡◌, ◌≢◌, ◌∙◌, ℕ, Option, Result, Ok, Err, IfErr, MatchResult, sym, ap, subst}
 use Rattle.zh_arguments.specs.declared.arguments.Task.{Task}
 use Rattle.zh_program.specs.Remarks.{BecameOf}
@@ -10,19 +10,19 @@ use Rattle.zh_program.specs.Program.{MetFault, ends}
 use Rattle.zh_program.specs.Paths.{fault_path}
 use Rattle.zh_program.specs.Reports.{report_text}
 
--- this status tells of a fault that the task met, if it met one: it is not 0
+-- If the task met a fault, the status is not 0.
 abbrev pub TellsOfFault : ℕ → Result (Unit {0}) TaskFault → Type 0
 TellsOfFault status result = (fault : TaskFault) → result ≡ Err fault → status ≢ 0
 
 module _ (of : Known) where
-  -- a task that ended with status 0 was done, and nothing more is said of it
+  -- A task that ended with status 0 was done, and nothing more is reported about it.
   pub was_done : (task : Task) (old after new : WorldOf of) (result : Result (Unit {0}) TaskFault) (used : Option (UsedOf of)) (status : ℕ)
       → Does of task old after (ends result used) → MatchResult result (λ _. (status ≡ 0) × (new ≡ after)) (λ _. status ≡ 1) → status ≡ 0
       → Does of task old new (ends (Ok tt) used)
   was_done task old after new (Ok done) used status does by zero = subst (λ (w : WorldOf of). Does of task old w (ends (Ok tt) used)) (sym by.1) does
   was_done task old after new (Err fault) used status does by zero = absurd cc
 
-  -- one that ended with status 1 met a fault, which is reported; of a file that was refused nothing is
+  -- A task that ended with status 1 met a fault, which is reported; `Refused` is not.
   pub met_fault : (task : Task) (old after new : WorldOf of) (result : Result (Unit {0}) TaskFault) (used : Option (UsedOf of)) (status : ℕ)
       → Does of task old after (ends result used) → MatchResult result (λ _. (status ≡ 0) × (new ≡ after)) (λ _. status ≡ 1)
       → new ≡ record after { faults = new.faults; remark = new.remark } → (result ≡ Err faults.Refused → new ≡ after)
@@ -40,13 +40,13 @@ module _ (of : Known) where
     refused = λ is. refused (ap Err is);
   }
 
--- so does that by which a task ends
+-- The same for the status by which the program ends.
 pub fails : (result : Result (Unit {0}) TaskFault) (status : ℕ) (same : Type 0)
     → MatchResult result (λ _. (status ≡ 0) × same) (λ _. status ≡ 1)
     → TellsOfFault status result
 fails (Ok done) status same by fault is = absurd cc
 fails (Err other) status same by fault is = λ zero. let wrong : ◌≡◌ {A = ℕ} 0 1 = sym zero ∙ by in absurd cc
 
--- refused memory is not a refused file
+-- Refused memory is not a refused task.
 pub memory_reported : faults.Memory ≢ faults.Refused
 memory_reported is = absurd cc

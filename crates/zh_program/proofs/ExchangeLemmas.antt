@@ -1,4 +1,4 @@
--- Exchanges, one after the other: the log, the disk and what the desks hold after one more.
+-- Exchanges in order: the log, the disk, and what the desks hold, after one more.
 use Rattle.std.proofs.Common.{◌≡◌, List, [], ◌∷◌, ◌++◌, Option, Some, None, refl, sym, ◌∙◌, ap}
 use Rattle.zh_disk.specs.Disk.{Trail}
 use Rattle.zh_returns.specs.declared.command.Command.{Command}
@@ -14,7 +14,7 @@ use Rattle.zh_office.specs.declared.answer.Answer.TheVariants as answers
 use Rattle.zh_office.proofs.CallerLemmas.{followed_by-assoc, nothing-followed_by}
 use Rattle.zh_program.specs.Exchanges.{Exchange, disk_by, held_by, held_then, log_by, log_of}
 
--- one exchange more
+-- The log after one more exchange.
 pub log_more : (xs : List Exchange) (x : Exchange) → log_of (xs ++ x ∷ []) ≡ followed_by (log_of xs) (log_by x.command x.answer)
 log_more [] x = log_none (log_by x.command x.answer) ∙ sym (nothing-followed_by (log_by x.command x.answer))
 log_more (y ∷ ys) x =
@@ -34,7 +34,7 @@ pub held_more : (held : Held) (xs : List Exchange) (x : Exchange) → held_by he
 held_more held [] x = refl
 held_more held (y ∷ ys) x = held_more (held_then held y.given y.answer) ys x
 
--- what the report of an outcome says of the log
+-- The log of a reported outcome.
 reported : (command : Command) (outcome : Outcome) → log_by (Some command) (answers.Reply (reply_to outcome)) ≡ logged command outcome
 reported command (outcomes.Stored number) = refl
 reported command outcomes.Same = refl

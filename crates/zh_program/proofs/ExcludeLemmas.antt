@@ -1,5 +1,5 @@
--- What the promise excludes. All that is accepted was judged acceptable, command after command, so a count says after how many of
--- them it is: two first parts of the accepted commands of which one image holds the count are equally long.
+-- What the promise excludes. Every accepted command was judged acceptable in its turn, so a count determines after how many
+-- commands it is: two prefixes of the accepted commands whose counts one image holds have the same length.
 use Rattle.std.proofs.Common.{◌≡◌, ◌≢◌, ◌⊎◌, ◌<◌, ◌≤◌, ◌+◌, ◌-◌, ◌*◌, ℕ, zero, suc, List, [], ◌∷◌, ◌++◌, length, take, Option, Some, None}
 use Rattle.std.proofs.Common.{inl, inr, ⊎_elim, refl, sym, ◌∙◌, ap, subst, arith, append_assoc, append-nil, length-take}
 use Rattle.std.proofs.lemmas.List.{append_cancel_right, take_all}
@@ -32,7 +32,7 @@ use Rattle.zh_program.proofs.AlwaysLemmas.{AtMoment}
 use Rattle.zh_program.proofs.EmptyLemmas.{now_first}
 use Rattle.zh_program.proofs.ExchangeLemmas.{log_more}
 
--- Commands that are acceptable in turn are counted once each.
+-- Commands, each acceptable after the ones before it, are counted once each.
 abbrev pub AreJudged : Tally → List Command → Type 0
 AreJudged t [] = Unit {0}
 AreJudged t (c ∷ cs) = (judge t c ≡ verdicts.Accept) × AreJudged (step t c) cs
@@ -62,7 +62,7 @@ pub after_canton : (t : Tally) (cs : List Command) → (after t cs).canton ≡ t
 after_canton t [] = refl
 after_canton t (c ∷ cs) = after_canton (step t c) cs ∙ on_verdict_canton (judge t c) (changed t c) t refl
 
--- an exchange adds one command at most
+-- An exchange adds at most one command.
 pub one_at_most : (command : Option Command) (answer : Answer)
     → ((log_by command answer).accepted ≡ []) ⊎ ((c : Command) × ((log_by command answer).accepted ≡ c ∷ []))
 one_at_most None answer = inl refl
@@ -70,12 +70,12 @@ one_at_most (Some c) (answers.Reply (Stored number)) = inr (c, refl)
 one_at_most (Some c) (answers.Reply (Refused refusals.Device)) = inr (c, refl)
 one_at_most (Some c) answer = inl refl
 
--- two images for counts of one set-up hold one count
+-- Two counts of one set-up that one image holds are equal.
 pub same_held : (c : List ℕ) (t u : Tally) → Holds t c → Holds u c → t.canton ≡ u.canton → t ≡ u
 same_held c t u one other own =
     (one_count c one.content other.content one.end other.end one.format other.format t u one.clean.framed other.clean.framed one.stands other.stands own).1
 
--- what is so at each moment is so where a stop comes
+-- What holds at each moment holds wherever a stop comes.
 all_back : {X : Type 0} (P : X → Type 0) (xs ys : List X) → All P (xs ++ ys) → All P ys
 all_back P [] ys all = all
 all_back P (x ∷ xs) ys all = all_back P xs ys (All-tail P x (xs ++ ys) all)
@@ -95,12 +95,12 @@ always_at P old new c always stop =
     = all_back (AtMoment P) later (before ++ old.now ∷ []) (subst (All (AtMoment P)) (append_assoc later before (old.now ∷ [])) each) in
     now_first P old stop.at before stop.begun.1 from c stop.image
 
--- an image holds the count after so many of the commands that these exchanges accept
+-- An image holds the count after the first n commands that these exchanges accept.
 abbrev pub HoldsAfter : Tally → List Exchange → ℕ → List ℕ → Type 0
 HoldsAfter tally xs n c = Holds (after tally (take n (log_of xs).accepted)) c
 
 module _ (tally : Tally) (before : Trail) (talk : Conversation) (exchanges : List Exchange) (promise : Headline tally before talk exchanges) where
-  -- where all that is accepted by some exchanges was judged acceptable, so was all by one more
+  -- If all commands that some exchanges accept were judged acceptable, so are those with one exchange more.
   judged_one : (done rest : List Exchange) (x : Exchange) → exchanges ≡ done ++ x ∷ rest
       → AreJudged tally (log_of done).accepted
       → AreJudged tally (log_of (done ++ x ∷ [])).accepted
@@ -130,7 +130,7 @@ module _ (tally : Tally) (before : Trail) (talk : Conversation) (exchanges : Lis
   pub all_judged : (done rest : List Exchange) → exchanges ≡ done ++ rest → AreJudged tally (log_of done).accepted
   all_judged done rest is = judged_from [] done rest is tt
 
-  -- two first parts of the accepted commands are equally long where one image holds the counts after both
+  -- Two prefixes of the accepted commands have the same length if one image holds the counts after both.
   pub same_length : (done rest others more : List Exchange) (c : List ℕ) (m n : ℕ) → exchanges ≡ done ++ rest → exchanges ≡ others ++ more
       → m ≤ length (log_of done).accepted
       → n ≤ length (log_of others).accepted
@@ -146,7 +146,7 @@ module _ (tally : Tally) (before : Trail) (talk : Conversation) (exchanges : Lis
       let other = judged_number tally (take n ys) (judged_take tally n ys (all_judged others more are)) in
       omega (arith, within, within', length-take m xs, length-take n ys, one, other, ap (λ (t : Tally). t.accepted) same)
 
-  -- no image without the last acknowledged command
+  -- No image without the last acknowledged command.
   pub none_lost : (done rest : List Exchange) (c : List ℕ) (n : ℕ) → exchanges ≡ done ++ rest
       → IsImage (disk_by talk.first.disk done).now c
       → n < (log_of done).acknowledged
@@ -158,7 +158,8 @@ module _ (tally : Tally) (before : Trail) (talk : Conversation) (exchanges : Lis
       let same = same_length done rest done rest c n some.number is is within some.within holds some.holds in
       omega (arith, same, fewer, some.at_least)
 
-  -- none of another count than that after a prefix of what is accepted by then, with all that was acknowledged before
+  -- No image of a count other than that after a prefix of the commands accepted by then, with every command acknowledged
+  -- before.
   pub none_other : (done rest : List Exchange) (x : Exchange) (c : List ℕ) (count : Tally) → exchanges ≡ done ++ x ∷ rest
       → StopsWithin (disk_by talk.first.disk done) x.disk c
       → Holds count c
@@ -173,7 +174,7 @@ module _ (tally : Tally) (before : Trail) (talk : Conversation) (exchanges : Lis
       let there = after tally (take some.number commands) in
       other some.number some.at_least some.within (same_held c count there holds some.holds (own ∙ sym (after_canton tally (take some.number commands))))
 
--- what rounds lies on no half
+-- What rounds to a number does not lie on a signpost.
 pub none_on_half : (n p s k : ℕ) → Rounds n p s → 2 * n ≡ (2 * k + 1) * p → ⊥
 none_on_half n p s k rounds half = ⊎_elim
     (λ (less : k < s).
@@ -184,6 +185,6 @@ none_on_half n p s k rounds half = ⊎_elim
     omega (arith, le, half, rounds.below_upper))
     (cases_lt k s)
 
--- no verdict is both
+-- No verdict is both `Accept` and `Same`.
 pub none_new : (verdict : Verdict) → verdict ≡ verdicts.Accept → verdict ≡ verdicts.Same → ⊥
 none_new verdict accept same = let wrong : verdicts.Accept ≡ verdicts.Same = sym accept ∙ same in absurd cc

@@ -1,4 +1,4 @@
--- What a formatting leaves that looks at the disk first, by what it finds there.
+-- What a formatting that opens the disk first leaves, by what it finds there.
 use Rattle.std.proofs.Common.{◌≡◌, ℕ, List, nat_lt, inl, inr, refl, sym, ap, subst, Result, Ok, Err, IsErrOf}
 use Rattle.zh_districts.specs.Canton.{Canton}
 use Rattle.zh_disk.specs.History.{History, Call}
@@ -19,7 +19,7 @@ use Rattle.zh_program.specs.Format.{FormatsBlank, FormattedAs, SaysIf, SaysProbl
 use Rattle.zh_program.specs.declared.fault.TaskFault.{TaskFault}
 use Rattle.zh_program.specs.declared.fault.TaskFault.TheVariants as formatting
 
--- the disk was only opened
+-- The disk was only opened.
 only_opened : (canton : Canton) (a b : History) {found : Result (State × Rest) OpenFault} (fault : TaskFault) → OpensStore found a.trail b.trail
     → (IsErrOf {T = Unit {0}} (Err fault) formatting.InUse → IsBlank a.trail.now.bytes → ⊥) → FormatsBlank canton (Err fault) a.trail b.trail
 only_opened canton a b fault opens in_use = record {
@@ -59,7 +59,7 @@ module _ (canton : Canton) {a b c : History} (opened : Call store_open_fails Ope
     unformatted = λ is. absurd cc;
   }) (followed refl opened made)
 
-  -- it was not formatted for memory, and then the disk was only opened; or the device failed
+  -- It was not formatted: either memory was refused and the disk was only opened, or the device failed.
   pub not_formatted : (met : FormatFault) (fault : TaskFault) → FormattedAs met fault → Call store_format_fails (MakesNew canton) b c (Err met)
       → (IsErrOf {T = Unit {0}} (Err met) of_store.Memory → c ≡ b) → Call format_fails (FormatsBlank canton) a c (Err fault)
   not_formatted of_store.Memory fault is made same = subst (λ (f : TaskFault). Call format_fails (FormatsBlank canton) a c (Err f)) (sym is)
@@ -85,7 +85,7 @@ module _ (canton : Canton) {a b c : History} (opened : Call store_open_fails Ope
         unformatted = λ memory. absurd cc;
       }) (followed refl opened made))
 
--- before anything was asked of the disk
+-- Memory was refused before any call of the disk.
 pub memory_first : (canton : Canton) {h : History} → Call format_fails (FormatsBlank canton) h h (Err formatting.Memory)
 memory_first canton {h} = no_call refl (λ honest. record {
   opened = h.trail;
@@ -98,7 +98,7 @@ memory_first canton {h} = no_call refl (λ honest. record {
   unformatted = λ is. refl;
 })
 
--- what was said of so many problems in this line
+-- The line that reports this many problems.
 pub said_of : (canton : Canton) (problems : SetupProblems) (n : ℕ) (text : List ℕ) (Said : List ℕ → Type 0) (unsaid : Type 0) → n ≡ problem_count problems
     → text ≡ problems_line (problem_count problems) → AreProblems canton problems → SaysIf (nat_lt 0 n) (Said text) unsaid → SaysProblems canton Said unsaid (Ok tt)
 said_of canton problems n text Said unsaid count line are says = (

@@ -1,5 +1,5 @@
--- What a front of the exchanges logs, by the texts of its answers: an answer that logs a command has one, so where all of a front's
--- texts are there, all that the front logs is logged.
+-- What a prefix of the exchanges logs, by the texts of its answers: an answer that logs a command has a text, so where all of a
+-- prefix's texts are written, its whole log is.
 use Rattle.std.proofs.Common.{◌≡◌, ◌⊎◌, ◌≤◌, ◌+◌, ℕ, List, [], ◌∷◌, ◌++◌, length, decimal, Option, None, Some}
 use Rattle.std.proofs.Common.{inl, inr, ⊎_elim, refl, sym, ◌∙◌, ap, arith, append_assoc, append-nil, length-append}
 use Rattle.std.specs.Prelude.{flat_map}
@@ -17,7 +17,7 @@ use Rattle.zh_program.specs.Exchanges.Given.{line, text}
 use Rattle.zh_program.proofs.ExchangeLemmas.{log_append, log_more}
 use Rattle.zh_program.proofs.ExcludeLemmas.{one_at_most}
 
--- an answer without a text is to nothing that is logged
+-- An answer that logs a command has a text.
 some_bytes : (front back : List ℕ) (byte : ℕ) → front ++ byte ∷ back ≡ [] → ⊥
 some_bytes [] back byte is = absurd cc
 some_bytes (b ∷ front) back byte is = absurd cc
@@ -42,7 +42,7 @@ unlogged_all (x ∷ xs) is =
     let one : log_by x.command x.answer ≡ nothing = unlogged x.command x.given x.count.accepted x.answer none.0 in
     ap (λ (l : Log). followed_by l (log_of xs)) one ∙ ap (followed_by nothing) (unlogged_all xs none.1)
 
--- of two first parts one goes on from the other
+-- Of two prefixes, one extends the other.
 pub two_parts : (xs ys A B : List Exchange) → xs ++ A ≡ ys ++ B → ((zs : List Exchange) × (ys ≡ xs ++ zs)) ⊎ ((zs : List Exchange) × (xs ≡ ys ++ zs))
 two_parts [] ys A B is = inl (ys, refl)
 two_parts (x ∷ xs) [] A B is = inr (x ∷ xs, refl)
@@ -56,7 +56,7 @@ two_parts (x ∷ xs) (y ∷ ys) A B is =
     inr (less.0, ap (λ (l : List Exchange). x ∷ l) less.1 ∙ ap (λ (z : Exchange). z ∷ (ys ++ less.0)) one))
     (two_parts xs ys A B tail)
 
--- what begins with the answers to some logs at least as much as they
+-- Exchanges whose answers begin with those of others log at least as much.
 pub record LogsMore (some all : Log) : Type 0 where
   pub acknowledged : some.acknowledged ≤ all.acknowledged
   pub accepted : length some.accepted ≤ length all.accepted
@@ -85,7 +85,7 @@ logs_more xs ys A B more parts front = ⊎_elim {C = LogsMore (log_of xs) (log_o
     })
     (two_parts xs ys A B parts)
 
--- one exchange more logs one command more at most
+-- One exchange more logs at most one command more.
 pub one_more : (done one : List Exchange) → length one ≤ 1 → length (log_of (done ++ one)).accepted ≤ length (log_of done).accepted + 1
 one_more done [] single = omega (arith, ap (λ (l : List Exchange). length (log_of l).accepted) (append-nil done))
 one_more done (x ∷ []) single =

@@ -1,4 +1,4 @@
--- From exchange to exchange, to the promise: what is so of each exchange in its turn is so wherever it stands.
+-- From exchanges one by one to the promise: what holds of each exchange in its turn holds of it wherever it is in the list.
 use Rattle.std.proofs.Common.{◌≡◌, List, [], ◌∷◌, ◌++◌}
 use Rattle.zh_disk.specs.Disk.{Trail}
 use Rattle.zh_returns.specs.Tally.{Tally}
@@ -11,7 +11,7 @@ use Rattle.zh_program.proofs.OpensLemmas.{opens_to}
 use Rattle.zh_program.proofs.OrderLemmas.{IsTold, order_of}
 use Rattle.zh_program.proofs.TurnLemmas.{AreTurns, IsOne, at_any, at_one}
 
--- the promise of an office that was opened, or refused
+-- The promise of an office that was opened or refused.
 pub headline_of : (tally : Tally) (before : Trail) (talk : Conversation) (xs : List Exchange)
     → Always (Holds tally) before talk.first.disk
     → AreTurns tally talk.first.disk [] xs

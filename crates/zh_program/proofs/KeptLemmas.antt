@@ -1,4 +1,4 @@
--- What is kept of the commands of a run, or of a load.
+-- What is kept of the commands of a run or a load.
 use Rattle.std.proofs.Common.{◌≡◌, ◌∙◌, ◌⊎◌, ⊎_elim, ℕ, Bool, List, Option, Ok, IsTrue, sym, ap, subst}
 use Rattle.zh_districts.specs.Canton.{Canton, IsCanton}
 use Rattle.zh_districts.proofs.CallerLemmas.{same_setup}
@@ -21,7 +21,7 @@ use Rattle.zh_office.specs.Runs.{its_ledger}
 use Rattle.zh_office.proofs.CallerLemmas.{acts_submitted}
 use Rattle.zh_program.specs.Opened.{IsFrom, KeepsAll}
 
--- a text that is loaded is one command, or none
+-- A loaded text is one command or none.
 pub load_is_logged : (old : OnDisk Office) (text : Option (List ℕ)) (failed : Bool) (reply : Reply) (new : OnDisk Office)
     (turn : LoadTurn old text failed reply new) → IsTrue new.history.honest → IsLogged (its_ledger old) turn.log (its_ledger new)
 load_is_logged old text failed reply new turn honest =
@@ -36,7 +36,7 @@ module _ (canton : Canton) (first last : History) (start end : OnDisk Office) (l
   abbrev stood : HoldsFramed start.holder.ledger.tally first.trail.now.bytes
   stood = opens.opened.stood
 
-  -- the set-up of the bytes is that of the office
+  -- The set-up in the bytes is that of the office.
   own_canton : start.holder.ledger.tally.canton ≡ tally.canton
   own_canton =
       let alike = framed_alike stood.content holds.content stood.end holds.end first.trail.now.bytes stood.framed holds.clean.framed in
@@ -49,7 +49,7 @@ module _ (canton : Canton) (first last : History) (start end : OnDisk Office) (l
   has : (least : ℕ) (d c : List ℕ) → IsImage start.history.trail.now d → ComesToHave start.holder.ledger log.accepted least d c → HasSome tally log.accepted least c
   has least d c image by = subst (λ (t : Tally). HasSome t log.accepted least c) own_count (by (from.begun.kept (from.honest honest) holds.content holds.end holds.clean d image))
 
-  -- what an opening leaves of the bytes holds what they held
+  -- What an opening leaves of the bytes holds the count that they held.
   still_holds : (f : List ℕ) → (f ≡ first.trail.now.bytes) ⊎ Migrates canton first.trail.now.bytes f → Holds tally f
   still_holds f by = ⊎_elim
       (λ still. subst (Holds tally) (sym still) holds)

@@ -1,5 +1,5 @@
--- What a load has answered and kept. Its text is the one exchange, with the reply as its answer; there is none where the file gave
--- no text, or no office was opened.
+-- What a load has answered and kept. Its text is the only exchange, with the reply as its answer. If the file gave no text, or
+-- no office was opened, there is none.
 use Rattle.std.proofs.Common.{◌≡◌, ◌≢◌, ◌⊎◌, inl, inr, ℕ, Bool, true, false, List, [], ◌∷◌, Option, Some, None, Result, Err, Ok, refl, sym, subst, ⊎_elim}
 use Rattle.std.proofs.lemmas.List.{append-nil}
 use Rattle.std.specs.Prelude.{IsErrAnd, flat_map}
@@ -41,7 +41,7 @@ use Rattle.zh_program.proofs.OrderLemmas.{IsTold}
 use Rattle.zh_program.proofs.TalkLemmas.{IsSilent, talking, told_none}
 use Rattle.zh_program.proofs.TurnLemmas.{at_rest, one_more}
 
--- what is loaded is read right
+-- What is loaded is read by the rules.
 text_right : (canton : Canton) (bytes : Option (List ℕ)) (failed : Bool) (loaded : Result (List Row) LoadFault)
     → LoadsFrom canton bytes failed loaded
     → IsReadRight canton (text bytes loaded)
@@ -49,7 +49,7 @@ text_right canton bytes failed (Err fault) by = tt
 text_right canton None failed (Ok rows) by = (by.rows, tt)
 text_right canton (Some known) failed (Ok rows) by = (by.rows, (by.known known refl).0)
 
--- the reply of a text that gives no command reports no tie, and not that something is stored
+-- The reply to a text that gives no command reports neither a tie nor that something is stored.
 refused_plain : (fault : LoadFault) → ¬ IsMarked (answers.Reply (Refused (load_refusal fault)))
 refused_plain loading.Csv = λ no. no
 refused_plain loading.Syntax = λ no. no
@@ -80,7 +80,7 @@ exchange_of_text old bytes failed reply new turn = record {
   disk = new.history.trail;
 }
 
--- an office that met no fault is given a text
+-- An office that met no fault is given a text.
 text_goes : (start : OnDisk Office) (bytes : Option (List ℕ)) (failed : Bool) (reply : Reply) (end : OnDisk Office)
     (turn : LoadTurn start bytes failed reply end)
     → start.holder.ledger.store.broken ≡ false
@@ -104,7 +104,7 @@ text_goes start bytes failed reply end turn whole tally honest at =
 
 module _ (known : Option (List ℕ)) (source : GivenText) (old new : Streams) (read : KeepsBytes known source.bytes) (status : ℕ)
     (canton : Canton) (limits : IsCanton canton) (first last : History) where
-  -- the exchange of a load, if there was one, in its conversation, and what is kept
+  -- The exchange of a load, if any, in its conversation, and what is kept.
   pub record HasAnswered : Type 0 where
     pub exchanges : List Exchange
     pub opened : Trail
@@ -120,7 +120,7 @@ module _ (known : Option (List ℕ)) (source : GivenText) (old new : Streams) (r
     written = inl (subst (λ (w : Option (List ℕ)). Appends old.written w []) (sym silent.written) (Appends-nil old.written));
   }
 
-  -- the file gave no text
+  -- The file gave no text.
   none_given : status ≢ 0 → IsSilent old new → IsOnlyOpened (IsFrom canton first last) → HasAnswered
   none_given failed silent (start, from) =
       let opened = start.history.trail in
@@ -145,7 +145,7 @@ module _ (known : Option (List ℕ)) (source : GivenText) (old new : Streams) (r
         kept = refused_keeps canton first last fault old new limits opening told;
       }
 
-  -- it was loaded
+  -- The text was loaded.
   module _ (reply : Reply) (by : Replied source old new (IsFrom canton first last) reply) where
     abbrev x : Exchange
     x = exchange_of_text by.start source.bytes source.failed reply by.end by.turn

@@ -1,4 +1,4 @@
--- Why there is no sheet, as its line is answered.
+-- The reason why there is no sheet, as the line that asks for it is answered.
 use Rattle.std.proofs.Common.{Bool, Option, Some, None, Err, refl, arith}
 use Rattle.zh_totals.specs.Totals.{VoteTotals}
 use Rattle.zh_sheet.specs.Lots.{IsForTheLot, IsLotFor}
@@ -16,7 +16,7 @@ use Rattle.zh_office.specs.Sheets.{MayGiveFor}
 use Rattle.zh_office.specs.declared.answer.Answer.TheVariants as answers
 use Rattle.zh_program.specs.Results.{IsReasonFor, SaysAll, refusal_answer, told}
 
--- memory may be refused in place of every sheet
+-- Memory may be refused instead of any sheet.
 pub no_memory : (totals : VoteTotals) (is_final : Bool) → MayGiveFor totals is_final (answers.Reply (replies.Refused refusals.Memory))
 no_memory totals is_final = (Err faults.Memory, record { sheet = tt; refused = memory_answer totals }, refl)
 
@@ -26,7 +26,7 @@ told_so totals faults.Memory lot made is_final = (Err faults.Memory, made, refl)
 told_so totals (faults.Refused refusal) (Some lot) made is_final = (Err (faults.Refused refusal), made, refl)
 told_so totals (faults.Refused refusal) None made is_final = (Err (faults.Refused refusal), made, refl)
 
--- what comes before the search, and has no lot, says all
+-- A refusal that comes before the search and is not for the lot needs no further reason.
 says_all : (refusal : SheetRefusal) → IsBeforeSearch refusal → ¬ IsForTheLot refusal → SaysAll refusal
 says_all sheets.Exhausted early no_lot = absurd (omega (arith, early))
 says_all sheets.TiedSeats early no_lot = no_lot

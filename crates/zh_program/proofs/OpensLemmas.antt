@@ -1,5 +1,5 @@
--- What an opening leaves of a count, and finds of it. An image stands for one count of a set-up at most, and has the bytes of its
--- set-up; so it opens to the count that it holds, and a migration leaves that count.
+-- What an opening finds of a count, and what it leaves. An image represents at most one count of a set-up and contains that
+-- set-up, so it opens to the count that it holds; and a migration preserves that count.
 use Rattle.std.proofs.Common.{◌≡◌, ◌⊎◌, inl, inr, ⊎_elim, ℕ, List, [], Result, Ok, Err, MatchResult, IsTrue, refl, sym, ◌∙◌, ap, subst}
 use Rattle.zh_disk.specs.Disk.{Trail, IsImage, Leaves, fresh_trail}
 use Rattle.zh_disk.specs.History.{History}
@@ -25,7 +25,7 @@ use Rattle.zh_program.proofs.AlwaysLemmas.{always_left}
 use Rattle.zh_program.proofs.SoundLemmas.{holds_kept}
 use Rattle.zh_program.proofs.TurnLemmas.{IsAt}
 
--- an image that holds a count opens to it
+-- An image that holds a count opens to it.
 pub opens_to : (count : Tally) (c : List ℕ) → Holds count c → OpensTo count c
 opens_to count c holds = record {
   stands = record { content = holds.content; end = holds.end; format = holds.format; framed = holds.clean.framed; stands = holds.stands };
@@ -34,7 +34,7 @@ opens_to count c holds = record {
       stood.framed holds.clean.framed stood.stands holds.stands own).1;
 }
 
--- so there is no cause to refuse it, memory and the device aside
+-- So the only causes to refuse it are memory and the device.
 pub no_cause : (count : Tally) (c : List ℕ) (fault : OpenFault) → OpensTo count c
     → IsCause count.canton c fault
     → (fault ≡ faults.Memory) ⊎ (fault ≡ faults.Device)
@@ -47,14 +47,14 @@ no_cause count c faults.SetupDiffers to cause =
 no_cause count c faults.Damaged to cause =
     absurd (cause.nothing to.stands.content to.stands.end to.stands.framed to.stands.format count refl to.stands.stands)
 
--- and so each opening of such an image ends
+-- So each opening of such an image ends with that count, or in one of these faults.
 pub reopens : (count : Tally) (result : Result Ledger OpenFault) (old new : Trail) → OpensTo count old.now.bytes
     → Opens count.canton result old new
     → MatchResult result (λ ledger. ledger.tally ≡ count) (λ fault. (fault ≡ faults.Memory) ⊎ (fault ≡ faults.Device))
 reopens count (Ok ledger) old new to opens = to.only ledger.tally opens.opened.opened.ready.set_up opens.opened.stood
 reopens count (Err fault) old new to opens = no_cause count old.now.bytes fault to opens.refused
 
--- The set-up of a count that the bytes stand for.
+-- The set-up of a count that the bytes represent.
 module _ (canton : Canton) (bytes : List ℕ) (tally : Tally) (limits : IsCanton canton) (own : IsCanton tally.canton) (holds : Holds tally bytes) where
   same_canton : (other : Tally) (format : Format) (x : Content) (j : ℕ) → IsFramed x j bytes
       → StandsFor format x other
@@ -69,13 +69,13 @@ module _ (canton : Canton) (bytes : List ℕ) (tally : Tally) (limits : IsCanton
   migrated : (c : List ℕ) → Migrates canton bytes c → Holds tally c
   migrated c m = migrated_holds canton bytes c tally (same_canton m.tally One m.content m.end m.framed m.stands m.own) holds m
 
-  -- what an opening leaves of the bytes holds what they held, at each moment
+  -- What an opening leaves of the bytes holds the count that they held, at each moment.
   pub opening_holds : (last : Trail) → Leaves (MayLeave canton bytes) (fresh_trail bytes) last → Always (Holds tally) (fresh_trail bytes) last
   opening_holds last leaves = always_left (MayLeave canton bytes) (Holds tally) (fresh_trail bytes) last leaves
       (λ d c image by. ⊎_elim (λ still. subst (Holds tally) (sym still) holds) (λ moved. migrated c moved) by.1)
       (λ c image. subst (Holds tally) (sym (only_image bytes c image)) holds)
 
--- The office that was opened there.
+-- The office that was opened on such a disk.
 module _ (canton : Canton) (first : History) (start : OnDisk Office) (begun : IsStart canton first start)
     (honest : IsTrue start.history.honest) (bytes : List ℕ) (fresh : first.trail ≡ fresh_trail bytes)
     (tally : Tally) (limits : IsCanton canton) (own : IsCanton tally.canton) (holds : Holds tally bytes) where

@@ -1,5 +1,5 @@
--- The exchanges of a conversation that is in order. An office keeps the order of its steps; since these are the exchanges, each part
--- of the steps is one of the exchanges, and the order is told anew by how many exchanges are answered.
+-- The exchanges of a conversation that is in order. An office keeps the order of its steps, which are the exchanges. Each part
+-- of the steps is part of the exchanges, so the order can be stated by the number of exchanges that are answered.
 use Rattle.std.proofs.Common.{◌≡◌, ◌≤◌, ◌⊎◌, ◌+◌, ℕ, List, [], ◌∷◌, ◌++◌, map, length, take, Option}
 use Rattle.std.proofs.Common.{inl, inr, ⊎_elim, refl, sym, ◌∙◌, ap, subst, arith, append_assoc, length-append}
 use Rattle.std.proofs.Math.Seq.{take-append-add, take-append_seam, take-length}
@@ -24,11 +24,11 @@ use Rattle.zh_program.proofs.ExchangeLemmas.{disk_more, log_append}
 use Rattle.zh_program.proofs.SoundLemmas.{has_front}
 use Rattle.zh_program.proofs.TurnLemmas.{AreTurns, at_any, at_one}
 
--- an exchange, as a step
+-- An exchange as a step.
 abbrev pub step_in : Exchange → Step
 step_in x = record { line = line_in x.given; text = text_of x; disk = x.disk }
 
--- the conversation is one of these exchanges, and in order
+-- The conversation consists of these exchanges, in order.
 abbrev pub IsTold : List Exchange → Conversation → Type 0
 IsTold xs talk = Throughout (ComesAfter (map step_in xs)) talk
 
@@ -44,7 +44,7 @@ lines_in : (xs : List Exchange) → map (λ (s : Step). s.line) (map step_in xs)
 lines_in [] = refl
 lines_in (x ∷ xs) = ap (λ (l : List (Option (List ℕ))). line_in x.given ∷ l) (lines_in xs)
 
--- where steps have a first part, exchanges have it
+-- A prefix of the steps gives a prefix of the exchanges.
 record HasParts (xs : List Exchange) (front back : List Step) : Type 0 where
   done : List Exchange
   rest : List Exchange
@@ -67,7 +67,7 @@ has_parts (x ∷ xs) (s ∷ front) back is =
       back_is = by.back_is;
     }
 
--- two times that follow each other, by the exchanges
+-- Two consecutive times, with the exchanges between them.
 record Comes (xs : List Exchange) (first a b : Frame) : Type 0 where
   done : List Exchange
   one : List Exchange
@@ -82,7 +82,7 @@ module _ (xs : List Exchange) (first a b : Frame) (by : ComesAfter (map step_in 
   front : HasParts xs by.done (by.one ++ by.rest)
   front = has_parts xs by.done (by.one ++ by.rest) by.parts
 
-  -- and of what is left the one
+  -- The first exchange of those that are left.
   next_one : (f : HasParts xs by.done (by.one ++ by.rest)) → HasParts f.rest by.one by.rest
   next_one f = has_parts f.rest by.one by.rest f.back_is
 
@@ -110,7 +110,7 @@ module _ (xs : List Exchange) (first a b : Frame) (by : ComesAfter (map step_in 
   comes : Comes xs first a b
   comes = comes_by front (next_one front)
 
-  -- a read comes once all lines are answered
+  -- A read comes after all lines are answered.
   pub before_reading : AnswersBeforeReading xs first a b
   before_reading = record {
     reads = λ asks.
@@ -127,7 +127,7 @@ module _ (xs : List Exchange) (first a b : Frame) (by : ComesAfter (map step_in 
     unread = by.unread;
   }
 
--- a first part with one more at most, by its length
+-- The length of a prefix with at most one exchange more.
 one_or_none : (done one : List Exchange) → length one ≤ 1 → (length (done ++ one) ≡ length done) ⊎ (length (done ++ one) ≡ length done + 1)
 one_or_none done [] single = inl (ap length (append-nil done))
 one_or_none done (x ∷ []) single = inr (omega (arith, length-append done (x ∷ [])))
@@ -139,9 +139,9 @@ next_part xs done [] rest parts single =
 next_part xs done (x ∷ []) rest parts single = ([], ap (take (length done + 1)) parts ∙ take-append-add done (x ∷ rest) 1 ∙ sym (append-nil (done ++ x ∷ [])))
 next_part xs done (x ∷ (y ∷ more)) rest parts single = absurd (omega (arith, single))
 
--- what each moment of the disk has
+-- What each moment of the disk contains.
 module _ (tally : Tally) (first : Frame) (xs : List Exchange) (turns : AreTurns tally first.disk [] xs) (a b : Frame) where
-  -- an image that has some of the commands by then has some of those with one exchange more
+  -- An image with some of the commands accepted by then has some of those accepted one exchange later.
   has_next : (done one rest : List Exchange) → xs ≡ done ++ (one ++ rest) → length one ≤ 1 → (least : ℕ) (c : List ℕ)
       → HasSome tally (log_of (done ++ one)).accepted least c
       → HasSome tally (log_of (take (length done + 1) xs)).accepted least c
@@ -151,7 +151,7 @@ module _ (tally : Tally) (first : Frame) (xs : List Exchange) (turns : AreTurns 
       = ap (λ (l : List Exchange). (log_of l).accepted) next.1 ∙ ap (λ (l : Log). l.accepted) (log_append (done ++ one) next.0) in
       subst (λ (cs : List Command). HasSome tally cs least c) (sym logs) (has_front tally (log_of (done ++ one)).accepted (log_of next.0).accepted least c some)
 
-  -- while the disk is at work on one more, or on none
+  -- While the disk works on at most one more exchange.
   at_work : (done one rest : List Exchange) → xs ≡ done ++ (one ++ rest) → length one ≤ 1
       → b.disk ≡ disk_by first.disk (done ++ one)
       → a.disk ≡ disk_by first.disk done
@@ -171,7 +171,7 @@ module _ (tally : Tally) (first : Frame) (xs : List Exchange) (turns : AreTurns 
       (subst (λ (t : Trail). Always P t b.disk) (sym still) (subst (Always P (disk_by first.disk done)) (sym (disk ∙ disk_more first.disk done x)) stopped))
   at_work done (x ∷ (y ∷ more)) rest parts single disk still = absurd (omega (arith, single))
 
-  -- while an answer is written
+  -- While an answer is written.
   at_rest_of : (done one rest : List Exchange) → xs ≡ done ++ (one ++ rest) → length one ≤ 1
       → b.disk ≡ disk_by first.disk (done ++ one)
       → a.disk ≡ b.disk
@@ -188,7 +188,7 @@ module _ (tally : Tally) (first : Frame) (xs : List Exchange) (turns : AreTurns 
     answered : Appends first.written a.written (flat_map text_of (take (length by.done) xs))
     answered = subst (λ (d : List Exchange). Appends first.written a.written (flat_map text_of d)) (sym seam) by.written
 
-    -- nothing is written
+    -- Nothing is written.
     keeps_done : IsDone (disk_by first.disk by.done) a b → KeepsWhatIsTold tally xs first a b
     keeps_done w =
         let all = flat_map text_of (take (length by.done) xs) in
@@ -203,7 +203,7 @@ module _ (tally : Tally) (first : Frame) (xs : List Exchange) (turns : AreTurns 
               (at_work by.done by.one by.rest by.parts by.single by.disk w.still);
         }
 
-    -- a front of an answer is written
+    -- A prefix of an answer is written.
     keeps_told : steps.IsTold (flat_map text_of by.one) a b → KeepsWhatIsTold tally xs first a b
     keeps_told w =
         let both : take (length (by.done ++ by.one)) xs ≡ by.done ++ by.one

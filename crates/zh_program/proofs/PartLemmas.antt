@@ -1,5 +1,5 @@
--- What a task on a disk has done, by the task: the exchanges that were due, told in order, and what is kept of the disk. Where no
--- office was opened, and of a task that answers nothing, there are none.
+-- What a task on a disk has done, by the task: the due exchanges, told in order, and what is kept of the disk. A task that
+-- opens no office or answers nothing has no exchanges.
 use Rattle.std.proofs.Common.{◌≡◌, ℕ, List, [], map, Option, Some, None, Result, Err, Ok, OnOk, IsTrue, ⊎_elim, refl, ap, subst}
 use Rattle.std.specs.Borrow.{Bor}
 use Rattle.std.specs.Io.KnownBytes.{Keeps as KeepsBytes}
@@ -45,12 +45,12 @@ pub setup_limits : (known : Option (List ℕ)) (canton : Canton) → IsSetupAt k
 setup_limits None canton is = is
 setup_limits (Some text) canton is = is.0
 
--- what is so where the task was done
+-- What holds if the task was done holds with status 0.
 where_done : {X : Type 0} (status : ℕ) (result : Result (Unit {0}) TaskFault) → TellsOfFault status result → OnOk result X → status ≡ 0 → X
 where_done status (Ok done) failed by zero = by
 where_done status (Err fault) failed by zero = absurd (failed fault refl zero)
 
--- what is done with an office, or where none was opened
+-- What was done with an office, or that none was opened.
 by_office : {X : Type 0} (canton : Canton) (first last : History) (nothing : Type 0)
     (Does : (OnDisk Office → OnDisk Office → Type 0) → Result (Unit {0}) TaskFault → Type 0) (result : Result (Unit {0}) TaskFault)
     → WithOffice canton first last nothing Does result
@@ -62,20 +62,20 @@ by_office canton first last nothing Does (Ok done) by refused opened = opened by
 by_office canton first last nothing Does (Err fault) by refused opened = opened by
 
 module _ (of : Known) where
-  -- no disk was opened, and none is handed over; or the work was done on the one that is
+  -- No disk was opened and none is handed over; or the work was done on the one handed over.
   pub by_disk : {X : Type 0} (work : Work) (paths : Paths) (old new : WorldOf of) (ended : EndOf of) → UsesDisk of work paths old new ended
       → (ended.used ≡ None → X)
       → (HasUsed of work paths old new ended → X)
       → X
   by_disk work paths old new ended by none uses = ⊎_elim (λ early. none early.none) (λ used. uses used) by
 
-  -- a task that answers no line and loads no text: no exchange is due, and what it writes is no part of a conversation
+  -- A task that answers no lines and loads no text: no exchange is due, and its output is not part of a conversation.
   pub record AnswersNone (task : Task) : Type 0 where
     pub due : (text_at : List ℕ → Option (List ℕ)) (talk : Conversation) (status : ℕ) → AreOfTask text_at task talk status []
     pub apart : (old after : WorldOf of) (opened : Trail) (used : FilmedOf of)
         → conversation of after after opened (of.disks.history used.disk).trail [] ≡ talk_of of task old after opened used
 
-  -- the exchanges of a task, which were due, in its conversation, and what is kept of a disk that began with this history
+  -- The due exchanges of a task in its conversation, and what is kept of a disk that began with this history.
   pub record HasDone (task : Task) (old after : WorldOf of) (status : ℕ) (canton : Canton) (first : History) (used : FilmedOf of) : Type 0 where
     pub exchanges : List Exchange
     pub opened : Trail
@@ -91,14 +91,14 @@ module _ (of : Known) where
     abbrev pub ended : History
     ended = of.disks.history used.disk
 
-    -- what the streams were, and what they are, with the film
+    -- The streams before, and the streams after with the film.
     abbrev before : Streams
     before = streams_of of old []
 
     abbrev now : Streams
     now = streams_of of after (frames of.readers of.writers of.disks used.film)
 
-    -- the world once its files were asked
+    -- The world after the calls of its files.
     abbrev asked : WorldOf of
     asked = record old { files = files }
 
@@ -157,7 +157,7 @@ module _ (of : Known) where
         answered (refused_answered known by.text before now read status canton limits begun ended fault (failed (faults.Open fault) is) unchanged opening))
         (λ loads. answered (load_done known by.text before now read status canton limits begun ended Met unwritten silent result failed loads))
 
-    -- what is written of a task that answers nothing is no part of a conversation
+    -- The output of a task that answers nothing is not part of a conversation.
     abbrev apart : Streams
     apart = streams_of of after []
 
@@ -167,7 +167,7 @@ module _ (of : Known) where
     apart_silent : IsSilent apart apart
     apart_silent = record { left = refl; written = refl; film = refl }
 
-    -- it had no exchange
+    -- The task had no exchange.
     none_done : (task : Task) → AnswersNone task → (opened : Trail) → IsTold [] (none_told opened) → Keeps canton begun ended (none_told opened) []
         → HasDone task old after status canton begun used
     none_done task none opened told kept =
@@ -180,7 +180,7 @@ module _ (of : Known) where
           kept = subst (λ (talk : Conversation). Keeps canton begun ended talk []) same kept;
         }
 
-    -- an office was opened and nothing was given to it, or none was
+    -- An office was opened and nothing was given to it, or none was opened.
     only_part : (task : Task) → AnswersNone task → (nothing : Type 0)
         (Does : (OnDisk Office → OnDisk Office → Type 0) → Result (Unit {0}) TaskFault → Type 0)
         → (Does (IsFrom canton begun ended) result → IsOnlyOpened (IsFrom canton begun ended))
@@ -199,7 +199,7 @@ module _ (of : Known) where
         = subst (λ (h : History). IsTold [] (talking apart apart opened h.trail)) opens.1.ended (told_none apart apart opened apart_silent) in
         none_done task none opened told (opened_keeps canton begun ended start start [] apart apart limits opens.1 (nothing_given start) told))
 
-    -- the same of a task that reads what is held
+    -- The same for a task that only reads the count.
     pub read_part : (task : Task) → AnswersNone task → (Reads : Tally → WorldOf of → WorldOf of → Result (Unit {0}) TaskFault → Type 0)
         → MakesReading of Reads canton (asked, first) (after, used.disk) result
         → HasDone task old after status canton begun used

@@ -1,5 +1,5 @@
--- What the program has done that hands a disk over, by its task. Only a task on a disk hands one over; what it has done with it
--- stays so when the program says how it ended.
+-- What the program has done when it hands over a disk, by its task. Only a task on a disk hands one over; the report at the end
+-- changes nothing that the task has done with it.
 use Rattle.std.proofs.Common.{◌≡◌, ℕ, List, Option, Some, None, Result, IsTrue, refl, sym, ◌∙◌, ap, subst, codes}
 use Rattle.std.specs.Prelude.{IsSomeAnd, is_some, option_map}
 use Rattle.zh_disk.specs.Disk.{fresh_trail}
@@ -41,7 +41,7 @@ use Rattle.zh_program.proofs.PartLemmas.{format_part, load_part, made_empty, rea
 at_path : (rows : List Row) (paths : Paths) (path : List ℕ) → Some paths.disk.now ≡ Some path → ArePaths rows paths → path ≡ path_in (codes "disk") rows
 at_path rows paths path on are = let is : paths.disk.now ≡ path = cc in sym is ∙ are.1
 
--- what a command asks for on a disk, and the path of the disk
+-- What a command asks for on a disk, and the path of the disk.
 asked_on : (given : Option (Text × List Row)) (task : Task) (path : List ℕ) → disk_path task ≡ Some path
     → Names given task
     → IsSomeAnd given (λ command. AsksOnDisk command task × (path ≡ path_in (codes "disk") command.1))
@@ -54,18 +54,18 @@ asked_on (Some given) task path on asks = at (paths_of task) refl
         let disk : Some paths.disk.now ≡ Some path = sym (ap (option_map (λ (p : Paths). p.disk.now)) is) ∙ on in
         ((ap is_some is, asks), at_path given.1 paths path disk (asked_at given task paths is asks))
 
--- such a task is not the version, which a flag asks for beside any command
+-- Such a task is not the version, which a flag asks for with any command.
 by_command : (arguments : List (List ℕ)) (task : Task) (path : List ℕ) → disk_path task ≡ Some path → AsksFor arguments task
     → Names (command_in arguments) task
 by_command arguments task path on = asked_by_command arguments task
     (λ is. let wrong : disk_path tasks.Version ≡ Some path = ap disk_path (sym is) ∙ on in absurd cc)
 
--- a task that formats no disk
+-- The task is not a formatting.
 abbrev IsNoFormat : Task → Type 0
 IsNoFormat task = (paths : Paths) → task ≡ Format paths → ⊥
 
 module _ (of : Known) where
-  -- the promise, of the disk that was handed over, and its film
+  -- The promise about the disk that was handed over and its film.
   module _ (arguments : List (List ℕ)) (old after : WorldOf of) (said : of.Errors) (remark : Remark)
       (status : ℕ) (result : Result (Unit {0}) TaskFault) (failed : TellsOfFault status result)
       (used : Option (UsedOf of)) (filmed : FilmedOf of) (handed : used ≡ Some (Disk filmed)) where
@@ -81,7 +81,7 @@ module _ (of : Known) where
     none_rehearsed : {X : Type 0} → (film : Film of.Input of.Output MemoryDisk) → used ≡ Some (Rehearsal film) → X
     none_rehearsed film is = let wrong : Some (Disk filmed) ≡ Some (Rehearsal film) = sym handed ∙ is in absurd cc
 
-    -- what is said of a task once it is done changes nothing of what it has done
+    -- A report after a task changes nothing that the task has done.
     said_after : (task : Task) (canton : Canton) (first : History) → HasDone of task old after status canton first filmed
         → HasDone of task old new status canton first filmed
     said_after (Run paths) canton first by = record { exchanges = by.exchanges; opened = by.opened; due = by.due; told = by.told; kept = by.kept }
@@ -110,7 +110,7 @@ module _ (of : Known) where
           formatted = λ p is. absurd (other p is);
         }
 
-    -- of a task whose disk is one that there is
+    -- For a task on an existing disk.
     found_on : (task : Task) → AsksFor arguments task → (paths : Paths) → disk_path task ≡ Some paths.disk.now → IsNoFormat task
         → (work : Work) → ((known : Option (List ℕ)) (first : History) → BeginsAt work known first → Begins known first)
         → ((uses : HasUsed of work paths old after (ends result used)) → IsCanton uses.canton
@@ -127,7 +127,7 @@ module _ (of : Known) where
         let here = subst (HasDone of task old after status canton began) (same_disk uses.last uses.used) (part uses limits) in
         found task asked paths on other canton uses.first (there _ began uses.begins) (said_after task canton began here))
 
-    -- of a formatting, whose disk may have been made
+    -- For a formatting, whose disk may have been created.
     found_made : (paths : Paths) → AsksFor arguments (Format paths)
         → HasUsed of works.Format paths old after (ends result used)
         → Promise of arguments old new status filmed
@@ -188,7 +188,7 @@ module _ (of : Known) where
         (λ none. none_early none)
         (λ uses. found_made paths asked uses)
 
-  -- the promise of a task of which no more changed after it than what was said of it
+  -- The promise of a task after which only its fault was reported.
   pub promise_of : (arguments : List (List ℕ)) (old after new : WorldOf of) → new ≡ record after { faults = new.faults; remark = new.remark }
       → (status : ℕ) (result : Result (Unit {0}) TaskFault) → TellsOfFault status result
       → (used : Option (UsedOf of)) (filmed : FilmedOf of) → used ≡ Some (Disk filmed)

@@ -1,4 +1,4 @@
--- What a reading has done, by how it ended.
+-- What a reading has done, by its result.
 use Rattle.std.proofs.Common.{◌≡◌, Result, Ok, Err, IfErr, refl}
 use Rattle.zh_disk.specs.History.{History}
 use Rattle.zh_districts.specs.Canton.{Canton}
@@ -16,7 +16,7 @@ use Rattle.zh_program.specs.declared.fault.TaskFault.{TaskFault}
 use Rattle.zh_program.specs.declared.fault.TaskFault.TheVariants as faults
 use Rattle.zh_program.proofs.StartLemmas.{begun_at, leaves_after, refused_leaves, starts, untouched_leaves}
 
--- its fault is not one of opening the office
+-- Its fault is not one of opening the office.
 with_reading : (canton : Canton) (first last : History) (nothing : Type 0)
     (Does : (OnDisk Office → OnDisk Office → Type 0) → Result (Unit {0}) TaskFault → Type 0) (result : Result (Unit {0}) TaskFault)
     → IfErr result IsOfReading → Does (IsFrom canton first last) result → WithOffice canton first last nothing Does result
@@ -24,7 +24,7 @@ with_reading canton first last nothing Does (Ok done) calm by = by
 with_reading canton first last nothing Does (Err (faults.Open fault)) calm by = absurd calm
 with_reading canton first last nothing Does (Err fault) calm by = by
 
--- nor one of the device
+-- Its fault is not one of the device.
 reading_calm : (result : Result (Unit {0}) TaskFault) → IfErr result IsOfReading → IfErr result (λ fault. IsOfDevice fault → ⊥)
 reading_calm (Ok done) calm = tt
 reading_calm (Err (faults.Open fault)) calm = absurd calm
@@ -39,11 +39,11 @@ module _ (of : Known) (Reads : Tally → WorldOf of → WorldOf of → Result (U
   abbrev ended : History
   ended = of.disks.history last
 
-  -- no office was opened
+  -- No office was opened.
   pub not_opened : (fault : OpenFault) → Opening canton first ended (Err fault) → MakesReading of Reads canton (old, disk) (old, last) (Err (faults.Open fault))
   not_opened fault opening = record { read = (refl, opening); stays = refl; disk = refused_leaves canton first ended fault opening }
 
-  -- what an office holds that was opened was read
+  -- The count of an opened office was read.
   pub was_read : (office : Office) → Opening canton first ended (Ok office.ledger) → office.held ≡ no_batches
       → (new : WorldOf of) (result : Result (Unit {0}) TaskFault) → Reads office.ledger.tally old new result
       → of.files.places new.files ≡ of.files.places old.files → IfErr result IsOfReading

@@ -1,4 +1,4 @@
--- What a rehearsal has read and answered. No other task hands over the film of a disk in memory.
+-- What a rehearsal has read and answered. Only a rehearsal hands over the film of a disk in memory.
 use Rattle.std.proofs.Common.{◌≡◌, ◌∙◌, ℕ, [], map, Option, Some, None, Result, Err, refl, sym, ap, subst}
 use Rattle.zh_disk.specs.Disk.{fresh_trail}
 use Rattle.zh_disk.specs.declared.memory.MemoryDisk.{MemoryDisk}
@@ -26,14 +26,14 @@ use Rattle.zh_program.proofs.PartLemmas.{by_disk}
 use Rattle.zh_program.proofs.ServedLemmas.{none_due, serve_done}
 use Rattle.zh_program.proofs.TalkLemmas.{IsSilent, talking, told_none}
 
--- what was done is served, or nothing was done
+-- Either the rehearsal was served, or nothing was done.
 by_case : {X : Type 0} (nothing : Type 0) (old new : Streams) (result : Result (Unit {0}) TaskFault) → HasRehearsed nothing old new result
     → ((fault : TaskFault) → result ≡ Err fault → nothing → X) → (Serves old new IsRehearsal result → X) → X
 by_case nothing old new (Err faults.Memory) by none serves = none faults.Memory refl by
 by_case nothing old new result by none serves = serves by
 
 module _ (of : Known) where
-  -- nothing was read, written or filmed
+  -- Nothing was read, written or noted on the film.
   abbrev IsUntouched : WorldOf of → WorldOf of → Film of.Input of.Output MemoryDisk → Type 0
   IsUntouched old after film = (after.input ≡ old.input) × (after.output ≡ old.output) × (scenes film ≡ [])
 
@@ -67,7 +67,7 @@ module _ (of : Known) where
         awaited = awaited_of (talking before now served.start.history.trail served.end.history.trail) served.exchanges served.told;
       })
 
-  -- only a rehearsal hands over such a film
+  -- Only a rehearsal hands over such a film.
   module _ (old after : WorldOf of) (status : ℕ) (result : Result (Unit {0}) TaskFault) (failed : TellsOfFault status result)
       (used : Option (UsedOf of)) (film : Film of.Input of.Output MemoryDisk) (handed : used ≡ Some (Rehearsal film)) where
     none_other : {X : Type 0} → used ≡ None → X
@@ -96,7 +96,7 @@ module _ (of : Known) where
     said (tasks.Show paths query) by = on_a_disk (works.Show query) paths by
     said (tasks.Format paths) by = on_a_disk works.Format paths by
 
-    -- and no more changed after it than what was said of it
+    -- And after it only its fault was reported.
     pub rehearsed_of : (new : WorldOf of) → new ≡ record after { faults = new.faults; remark = new.remark }
         → (task : Task) → Does of task old after (ends result used)
         → RehearsalPromise of old new status film

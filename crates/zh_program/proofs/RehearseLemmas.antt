@@ -19,13 +19,13 @@ use Rattle.zh_program.specs.declared.fault.TaskFault.{TaskFault}
 use Rattle.zh_program.specs.declared.fault.TaskFault.TheVariants as faults
 use Rattle.zh_program.proofs.TaskRunLemmas.{serves_as}
 
--- an office that is opened on a new disk has an empty count
+-- An office opened on a new disk has an empty count.
 opened_empty : (canton : Canton) (m : Moment) (s : Ledger) → ((c : List ℕ) → IsImage m c → IsNew canton c) → IsReady canton s → HoldsFramed s.tally m.bytes → s.tally ≡ empty canton
 opened_empty canton m s formatted ready stood =
     let new = formatted m.bytes (record { size = refl; same = λ k settled. refl }) in
     (one_count m.bytes stood.content new.content stood.end new.end stood.format new.format s.tally (empty canton) stood.framed new.clean.framed stood.stands new.stands ready.set_up).1
 
--- the office of the rehearsal
+-- The office of the rehearsal.
 rehearses : (canton : Canton) (first last : History) (start end : OnDisk Office) → canton ≡ rehearsal → IsTrue last.honest → ((c : List ℕ) → IsImage first.trail.now c → IsNew canton c)
     → IsFrom canton first last start end → IsRehearsal start end
 rehearses canton first last start end is sure formatted from =
@@ -37,7 +37,7 @@ rehearses canton first last start end is sure formatted from =
       honest = subst (λ (h : History). IsTrue h.honest) (sym from.ended) sure;
     }
 
--- lines that were served by an office that was opened on its disk
+-- Lines that were served by an office opened on its disk.
 pub rehearsed : (nothing : Type 0) (old new : Streams) (canton : Canton) (first last : History) (start : OnDisk Office) (result : Result (Unit {0}) TaskFault)
     → canton ≡ rehearsal → IsTrue last.honest → ((c : List ℕ) → IsImage first.trail.now c → IsNew canton c)
     → ((s e : OnDisk Office) → IsThis start last s e → IsFrom canton first last s e)
@@ -49,11 +49,11 @@ rehearsed nothing old new canton first last start result is sure formatted begin
     only (Err faults.Memory) by = absurd by
     only result by = by
 
--- on a film that showed nothing yet
+-- The film showed nothing yet.
 pub rehearsed_blank : (nothing : Type 0) (left w : Option (List ℕ)) (film : List Frame) (new : Streams) (result : Result (Unit {0}) TaskFault)
     → Rehearsed nothing (streams left w film) new result → film ≡ [] → Rehearsed nothing (streams left w []) new result
 rehearsed_blank nothing left w film new result by blank = subst (λ (l : List Frame). Rehearsed nothing (streams left w l) new result) blank by
 
--- no scene gives no frame
+-- A film without scenes has no frames.
 pub blank_frames : {A B : Type 0} (f : A → B) (scenes : List A) → scenes ≡ [] → map f scenes ≡ []
 blank_frames f scenes none = ap (map f) none

@@ -1,4 +1,4 @@
--- A sheet that is not found right is right in no way.
+-- A sheet that the check does not find right is not a right sheet in any reading.
 use Rattle.std.proofs.Common.{◌≢◌, List, Option, refl, ℕ}
 use Rattle.zh_districts.specs.Canton.{Canton}
 use Rattle.zh_totals.specs.Totals.{VoteTotals}

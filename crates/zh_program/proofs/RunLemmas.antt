@@ -1,4 +1,4 @@
--- The exchanges of a run: one for each line, in order, and its text is theirs.
+-- The exchanges of a run: one for each line, in order. Its output is their texts.
 use Rattle.std.proofs.Common.{◌≡◌, ℕ, List, [], ◌∷◌, ◌++◌, map, refl, sym, ◌∙◌, ap, subst, append_assoc, IsTrue, Option, Some}
 use Rattle.std.proofs.lemmas.List.{append-nil}
 use Rattle.std.specs.Prelude.{flat_map}
@@ -11,11 +11,11 @@ use Rattle.zh_office.proofs.CallerLemmas.{run_honest}
 use Rattle.zh_program.specs.Exchanges.{Exchange, line_in, text_of}
 use Rattle.zh_program.proofs.TurnLemmas.{AreTurns, IsAt, IsOne, at_rest, exchange_of, turn_more}
 
--- the texts of the answers
+-- The texts of the answers, joined.
 abbrev pub texts_of : List Exchange → List ℕ
 texts_of xs = flat_map text_of xs
 
--- the bytes of the line of an exchange
+-- The bytes of an exchange's line.
 abbrev pub line_in_exchange : Exchange → Option (List ℕ)
 line_in_exchange x = line_in x.given
 
@@ -24,13 +24,13 @@ exchanges_of old [] out log new run = []
 exchanges_of old (bytes ∷ lines) out log new run =
     exchange_of old bytes run.answer run.mid run.turn ∷ exchanges_of run.mid lines run.rest run.others new run.follows
 
--- they are those of its lines
+-- The exchanges have the lines of the run.
 pub lines_are : (old : OnDisk Office) (lines : List (List ℕ)) (out : List ℕ) (log : Log) (new : OnDisk Office) (run : Runs old lines out log new)
     → map line_in_exchange (exchanges_of old lines out log new run) ≡ map Some lines
 lines_are old [] out log new run = refl
 lines_are old (bytes ∷ lines) out log new run = ap (λ (xs : List (Option (List ℕ))). Some bytes ∷ xs) (lines_are run.mid lines run.rest run.others new run.follows)
 
--- and what it writes is their texts
+-- The run writes their texts.
 pub texts_are : (old : OnDisk Office) (lines : List (List ℕ)) (out : List ℕ) (log : Log) (new : OnDisk Office) (run : Runs old lines out log new)
     → texts_of (exchanges_of old lines out log new run) ≡ out
 texts_are old [] out log new run = sym run.wrote
@@ -64,7 +64,7 @@ module _ (tally : Tally) (opened : Trail) where
         subst (λ (d : List Exchange). IsAt tally opened d new) (append_assoc done (x ∷ []) xs) rest.1,
       )
 
-  -- and one exchange more
+  -- With one exchange more.
   pub turns_more : (done xs : List Exchange) (x : Exchange) (before after : OnDisk Office)
       → AreTurns tally opened done xs
       → IsAt tally opened (done ++ xs) before

@@ -1,4 +1,4 @@
--- What a run has answered and kept. The lines, texts and steps of a run are those of its exchanges; if the writer failed, the last
+-- What a run has answered and kept. The lines, texts and steps of a run are those of its exchanges. If a write failed, the last
 -- exchange is the one whose answer is cut short.
 use Rattle.std.proofs.Common.{◌≡◌, ◌≢◌, ◌⊎◌, ℕ, Bool, List, [], ◌∷◌, ◌++◌, map, take, Option, Some, Result, Err, Ok}
 use Rattle.std.proofs.Common.{inl, inr, ⊎_elim, refl, sym, ◌∙◌, ap, subst, append_assoc}
@@ -27,7 +27,7 @@ use Rattle.zh_program.proofs.RunLemmas.{exchanges_of, line_in_exchange, lines_ar
 use Rattle.zh_program.proofs.TalkLemmas.{IsSilent, talking}
 use Rattle.zh_program.proofs.TurnLemmas.{exchange_of, turn_more}
 
--- the steps of a run are its exchanges
+-- The steps of a run are its exchanges.
 steps_are : (old : OnDisk Office) (lines : List (List ℕ)) (out : List ℕ) (log : Log) (new : OnDisk Office) (run : Runs old lines out log new)
     → steps_of old lines out log new run ≡ map step_in (exchanges_of old lines out log new run)
 steps_are old [] out log new run = refl
@@ -35,7 +35,7 @@ steps_are old (line ∷ lines) out log new run =
     ap (λ (l : List Step). step_of line run.answer run.mid ∷ l) (steps_are run.mid lines run.rest run.others new run.follows)
 
 module _ (old new : Streams) (status : ℕ) (Spans : OnDisk Office → OnDisk Office → Type 0) where
-  -- what an office has answered that began so, from its start to its end
+  -- What an office has answered, from its start to its end.
   pub record HasServed : Type 0 where
     pub start : OnDisk Office
     pub end : OnDisk Office
@@ -45,7 +45,7 @@ module _ (old new : Streams) (status : ℕ) (Spans : OnDisk Office → OnDisk Of
     pub told : IsTold exchanges (talking old new start.history.trail end.history.trail)
     pub goes : GoesOnTo start exchanges end
 
-  -- the film of these steps is one of these exchanges
+  -- The film of these steps shows these exchanges.
   told_by : (start end : OnDisk Office) (xs : List Exchange) (steps : List Step) → steps ≡ map step_in xs
       → IsFilmed steps (beside old start) (beside new end)
       → IsTold xs (talking old new start.history.trail end.history.trail)
@@ -54,7 +54,7 @@ module _ (old new : Streams) (status : ℕ) (Spans : OnDisk Office → OnDisk Of
       let last = frame_at (beside new end) in
       subst (λ (s : List Step). InOrder (ComesAfter s first) first new.film last) same filmed.follow
 
-  -- all lines that are due are answered, and their answers written
+  -- All due lines are answered and the answers written.
   whole_served : (start end : OnDisk Office) → Spans start end → (input : List ℕ) → Consumes old.left new.left input → (lines : List (List ℕ))
       → (IsAtEnd new.left × (lines ≡ lines_of input)) ⊎ ((status ≢ 0) × (lines ≡ ended_lines input))
       → (answers : AnswersAll lines (beside old start) (beside new end))
@@ -93,13 +93,13 @@ module _ (old new : Streams) (status : ℕ) (Spans : OnDisk Office → OnDisk Of
       let ended = by.serving in
       whole_served by.start by.end by.spans ended.input ended.read (ended_lines ended.input) (inr (failed, refl)) ended.answers ended.order
 
-  -- the writer failed in the answer to a line
+  -- A write failed within the answer to a line.
   module _ (start end : OnDisk Office) (lines : List (List ℕ)) (breaks : BreaksOff lines (beside old start) (beside new end)) where
-    -- the exchanges of the lines before it, which are answered whole
+    -- The exchanges of the lines before it, which are answered whole.
     abbrev whole : List Exchange
     whole = exchanges_of start breaks.answered breaks.out breaks.log breaks.mid breaks.run
 
-    -- and its own
+    -- The exchange of that line.
     abbrev cut : Exchange
     cut = exchange_of breaks.mid breaks.last breaks.answer end breaks.turn
 
@@ -170,7 +170,7 @@ module _ (old new : Streams) (status : ℕ) (Spans : OnDisk Office → OnDisk Of
   serve_done (Err (faults.Serve serving.Write)) failed by = front_served (failed (faults.Serve serving.Write) refl) by
   serve_done (Err fault) failed by = absurd by
 
--- where nothing was read and nothing written no line is due but with status 0
+-- If nothing was read or written and the status is not 0, no line is due.
 pub none_due : (old new : Streams) (status : ℕ) (t : Trail) → status ≢ 0 → IsSilent old new → AnswerLines (talking old new t t) status []
 none_due old new status t failed silent = record {
   input = [];

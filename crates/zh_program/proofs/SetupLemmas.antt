@@ -1,4 +1,4 @@
--- A set-up, and the text that it is read from.
+-- A set-up and the text from which it is read.
 use Rattle.std.proofs.Common.{◌≡◌, ◌≢◌, ◌<◌, ◌≤◌, ◌∙◌, refl, sym, ap, subst, arith, ⊎_elim, inl, inr}
 use Rattle.std.proofs.Common.{ℕ, nat_le, List, [], ◌++◌, length, take, Bool, true, false, cond, ◌&&◌, Option, Some, None, Ok, Err, IfSome}
 use Rattle.std.proofs.lemmas.Bool.{cases_lt}
@@ -32,7 +32,7 @@ unless : {X : Type 0} (b c : Bool) (x y : X) → b ≡ false → cond (b && c) x
 unless true c x y is = absurd cc
 unless false c x y is = refl
 
--- too many bytes stand for no set-up
+-- Too many bytes are not a set-up.
 no_text : (bytes : List ℕ) → nat_le (length bytes) 1048576 ≡ false → reading_of bytes ≡ Err Text
 no_text bytes is = unless (nat_le (length bytes) 1048576) (is_utf8 bytes) _ (Err Text) is
 
@@ -54,7 +54,7 @@ setup_known (Some all) front canton is reading limits =
 not_short : (n : ℕ) → 1048576 < n → nat_le n 1048576 ≡ false
 not_short n long = ⊎_elim (λ (h : (nat_le n 1048576 ≡ true) × (n ≤ 1048576)). absurd (omega arith)) (λ (h : (nat_le n 1048576 ≡ false) × (1048576 < n)). h.0) (leb_tells n 1048576)
 
--- a front that is cut off stands for no set-up, and so does its text
+-- A prefix that was cut off is not a set-up, and neither is the whole text.
 cut : (all front : List ℕ) → front ≡ take 1048577 all → 1048576 < length all → (reading_of front ≡ Err Text) × (reading_of all ≡ Err Text) × (1048576 < length front)
 cut all front is long =
     let many : 1048576 < length front = omega (arith, length-take 1048577 all, ap length is) in
@@ -69,7 +69,7 @@ placed_long all front refusal long many placed = elim placed [
   ]
 ]
 
--- what refuses the front of a text that was read refuses the text
+-- The refusal of the bytes that were read is right for the whole text.
 pub setup_refused : (known : Option (List ℕ)) (front text : List ℕ) (refusal : SetupRefusal) → IsFrontAt known front → text ≡ front
     → (refusal.fault ≢ Memory → reading_of text ≡ Err refusal.fault) → IsPlaced text refusal → RefusesSetup known refusal
 setup_refused None front text refusal is same fault placed = tt

@@ -1,5 +1,6 @@
--- What a command leaves of a disk, on which a ledger keeps the count after those before it. Each image has the count before the
--- command or the one after it, and so that after some first part of the accepted commands, with all that are acknowledged.
+-- What a command leaves of a disk on which a ledger keeps the count after the commands before it. Each image has the count
+-- before the command or after it, so it has the count after a prefix of the accepted commands that includes every acknowledged
+-- one.
 use Rattle.std.proofs.Common.{◌≡◌, ℕ, ◌+◌, ◌≤◌, List, [], ◌∷◌, ◌++◌, length, take, Bool, true, false, IsTrue, Option, Some, None}
 use Rattle.std.proofs.Common.{inl, ⊎_elim, refl, sym, ◌∙◌, ap, subst, arith, length-append, add-zero}
 use Rattle.std.proofs.lemmas.List.{take_all, take-append-le, append-nil}
@@ -32,11 +33,11 @@ pub after-append : (t : Tally) (cs ds : List Command) → after t (cs ++ ds) ≡
 after-append t [] ds = refl
 after-append t (c ∷ cs) ds = after-append (step t c) cs ds
 
--- an image that the ledger knows holds its count
+-- An image that the ledger knows holds the ledger's count.
 pub holds_kept : (s : Ledger) (c : List ℕ) → HoldsLedger s c → Holds s.tally c
 holds_kept s c kept = record { content = kept.content; end = kept.end; format = s.format; clean = kept.clean; stands = kept.stands }
 
--- after commands that are all there, one that has some of the others has them too
+-- An image that holds a prefix of further commands also holds the commands before them.
 pub has_after : (t : Tally) (cs ds : List Command) (least : ℕ) (c : List ℕ) → HasSome (after t cs) ds least c → HasSome t (cs ++ ds) (length cs + least) c
 has_after t cs ds least c some = record {
   number = length cs + some.number;
@@ -51,7 +52,7 @@ has_one s command c holds = record { number = 1; at_least = omega arith; within 
 pub has_any : (tally : Tally) (commands : List Command) (least fewer : ℕ) (c : List ℕ) → fewer ≤ least → HasSome tally commands least c → HasSome tally commands fewer c
 has_any tally commands least fewer c le some = record { number = some.number; at_least = omega (arith, some.at_least, le); within = some.within; holds = some.holds }
 
--- and some of more than these
+-- An image with a prefix of some commands has a prefix of a longer list.
 pub has_front : (tally : Tally) (cs ds : List Command) (least : ℕ) (c : List ℕ) → HasSome tally cs least c → HasSome tally (cs ++ ds) least c
 has_front tally cs ds least c some = record {
   number = some.number;
@@ -60,23 +61,23 @@ has_front tally cs ds least c some = record {
   holds = subst (λ (l : List Command). Holds (after tally l) c) (sym (take-append-le some.number cs ds some.within)) some.holds;
 }
 
--- while the device has not failed, all that is accepted is acknowledged, and each image is the one that the ledger knows
+-- While the device has not failed, every accepted command is acknowledged, and every image is one that the ledger knows.
 pub record IsWhole (log : Log) (o : OnDisk Ledger) : Type 0 where
   pub all : log.acknowledged ≡ length log.accepted
   pub images : (c : List ℕ) → IsImage o.history.trail.now c → HoldsLedger o.holder c
 
--- the ledger has the count after those that were acknowledged, and each image that after the first of those accepted
+-- The ledger has the count after the acknowledged commands, and each image the count after a prefix of the accepted ones.
 pub record IsSoundBy (tally : Tally) (log : Log) (o : OnDisk Ledger) : Type 0 where
   pub count : o.holder.tally ≡ count_by tally log
   pub each : (c : List ℕ) → IsImage o.history.trail.now c → HasSome tally log.accepted log.acknowledged c
   pub whole : o.holder.store.broken ≡ false → IsWhole log o
 
--- and so it is after a call that adds this to the log, at each moment of which an image has what was acknowledged before
+-- The same after a call that adds this to the log. At each moment of the call, an image has what was acknowledged before it.
 pub record GoesOnBy (tally : Tally) (log more : Log) (old new : OnDisk Ledger) : Type 0 where
   pub sound : IsSoundBy tally (followed_by log more) new
   pub moments : Always (HasSome tally (log.accepted ++ more.accepted) log.acknowledged) old.history.trail new.history.trail
 
--- where nothing is done
+-- Nothing is done.
 quiet : (tally : Tally) (log : Log) (old new : OnDisk Ledger) → IsSoundBy tally log old
     → new.holder ≡ old.holder
     → new.history.trail ≡ old.history.trail
@@ -93,7 +94,7 @@ quiet tally log old new sound holder trail = record {
       (λ c image. subst (λ (cs : List Command). HasSome tally cs log.acknowledged c) (sym (append-nil log.accepted)) (sound.each c image));
 }
 
--- a command is stored, or the device fails under it
+-- A command is stored, or the device fails while it is.
 module _ (tally : Tally) (log : Log) (old new : OnDisk Ledger) (command : Command) (sound : IsSoundBy tally log old) (whole : IsWhole log old)
     (leaves : Leaves (KeepsOrSteps old.holder command) old.history.trail new.history.trail) where
   abbrev all : List Command
@@ -158,7 +159,7 @@ module _ (tally : Tally) (log : Log) (old new : OnDisk Ledger) (command : Comman
         moments = moments;
       }
 
--- a command that is stored, or meets a fault, meets no broken ledger
+-- A command that is stored or meets a fault did not find a broken ledger.
 stored_whole : (b : Bool) (s : Ledger) (c : Command) (k : ℕ) → MayResultWhere b s c (Stored k) → b ≡ false
 stored_whole true s c k results = absurd cc
 stored_whole false s c k results = refl
@@ -193,7 +194,7 @@ acts_goes_on tally log old new (Some command) May answer more sound honest (by, 
     subst (λ (l : Log). GoesOnBy tally log l old new) (sym (logs ∙ by.submission.logs))
     (outcome_goes_on tally log old new command by.outcome sound by.submission.results by.submission.after (by.submission.call.did honest).leaves)
 
--- What is accepted was judged acceptable.
+-- An accepted command was judged acceptable.
 accepted_by : (v : Verdict) (s : Ledger) (c d : Command) (outcome : Outcome) → judge s.tally c ≡ v
     → MayFollow v s c outcome
     → (logged c outcome).accepted ≡ d ∷ []
@@ -219,7 +220,7 @@ acts_accepted old new (Some command) May answer more d (by, logs) is =
     let one : (logged command by.outcome).accepted ≡ d ∷ [] = sym (ap (λ (l : Log). l.accepted) (logs ∙ by.submission.logs)) ∙ is in
     accepted_where old.holder.store.broken old.holder command d by.outcome by.submission.results one
 
--- A command is answered `same` only where it is judged the same.
+-- A command is answered `same` only if it is judged the same.
 same_stores : (spent : Bool) (accepted : ℕ) → MayStoreWhere spent accepted Same → ⊥
 same_stores true accepted may = absurd cc
 same_stores false accepted may = ⊎_elim (λ stored. absurd cc) (λ device. absurd cc) may

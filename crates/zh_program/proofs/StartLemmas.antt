@@ -1,4 +1,4 @@
--- How an office begins on the disk that it was opened from.
+-- How an office begins on the disk on which it was opened.
 use Rattle.std.proofs.Common.{◌≡◌, ℕ, List, Result, Ok, Err, IfErr, IsTrue, sym, ap, subst, arith}
 use Rattle.zh_districts.specs.Canton.{Canton}
 use Rattle.zh_office.specs.DeskBatches.{no_batches}
@@ -19,13 +19,13 @@ use Rattle.zh_program.specs.Opened.{IsFrom, IsOfDevice, IsStart, IsThis, LeavesD
 use Rattle.zh_program.specs.declared.fault.TaskFault.{TaskFault}
 use Rattle.zh_program.specs.declared.fault.TaskFault.TheVariants as faults
 
--- clean bytes that stand for a count hold it
+-- Clean bytes that represent a count hold it.
 held_by : (bytes : List ℕ) (tally : Tally) → HoldsFramed tally bytes → (x : Content) (j : ℕ) → IsClean x j bytes → Holds tally bytes
 held_by bytes tally stood x j clean =
     let alike = framed_alike stood.content x stood.end j bytes stood.framed clean.framed in
     record { content = x; end = j; format = stood.format; clean = clean; stands = subst (λ (y : Content). StandsFor stood.format y tally) alike.0 stood.stands }
 
--- an office that was opened has begun
+-- An opened office is at its start.
 pub starts : (canton : Canton) (first : History) (start : OnDisk Office)
     → Opening canton first start.history (Ok start.holder.ledger) → start.holder.held ≡ no_batches → IsStart canton first start
 starts canton first start opening held = record {
@@ -37,7 +37,7 @@ starts canton first start opening held = record {
       knows_images canton first.trail start.history.trail ledger opens ledger.tally opening.ready.set_up (held_by first.trail.now.bytes ledger.tally opens.opened.stood x j clean);
 }
 
--- what begins with it has begun so, where a disk that is honest in the end was so then
+-- Work that begins with this start is from it, if a disk that is honest at the end was honest then.
 pub begun_at : (canton : Canton) (first last : History) (start : OnDisk Office) → IsStart canton first start → (IsTrue last.honest → IsTrue start.history.honest)
     → (s e : OnDisk Office) → IsThis start last s e → IsFrom canton first last s e
 begun_at canton first last start begun honest s e this = record {
@@ -46,7 +46,7 @@ begun_at canton first last start begun honest s e this = record {
   honest = λ h. subst (λ (o : OnDisk Office). IsTrue o.history.honest) (sym this.0) (honest h);
 }
 
--- what is left of a disk after an office was opened on it, is left of it from before
+-- What a task leaves of a disk after opening an office on it, it leaves of the disk from before the opening.
 pub leaves_after : (canton : Canton) (first mid last : History) (ledger : Ledger) (result : Result (Unit {0}) TaskFault)
     → Opening canton first mid (Ok ledger) → LeavesDisk mid last result → LeavesDisk first last result
 leaves_after canton first mid last ledger result opening leaves = record {
@@ -60,7 +60,7 @@ leaves_after canton first mid last ledger result opening leaves = record {
     at (Ok done) cause = tt
     at (Err fault) cause = λ is. risen_since first.failures mid.failures last.failures opening.call.counts.later (cause is)
 
--- where no office was opened
+-- If no office was opened.
 pub refused_leaves : (canton : Canton) (first last : History) (fault : OpenFault) → Opening canton first last (Err fault) → LeavesDisk first last (Err (faults.Open fault))
 refused_leaves canton first last fault by = record {
   kept = by.call.kept;
@@ -68,7 +68,7 @@ refused_leaves canton first last fault by = record {
   cause = λ is. by.call.counts.rose (ap (λ (f : OpenFault). open_fails {T = Ledger} (Err f)) is);
 }
 
--- where nothing is done to the disk, and the device is not reported
+-- If nothing is done to the disk and the device is not reported.
 pub untouched_leaves : (history : History) (result : Result (Unit {0}) TaskFault) → IfErr result (λ fault. IsOfDevice fault → ⊥) → LeavesDisk history history result
 untouched_leaves history (Ok done) calm = record { kept = λ honest. honest; later = omega arith; cause = tt }
 untouched_leaves history (Err fault) calm = record { kept = λ honest. honest; later = omega arith; cause = λ is. absurd (calm is) }

@@ -1,11 +1,11 @@
--- The front of a sheet's file.
+-- The first bytes of a sheet's file.
 use Rattle.std.proofs.Common.{◌≡◌, ◌∙◌, ◌++◌, ◌+◌, ◌≤◌, ◌⊎◌, ℕ, List, [], length, take, Option, Some, None, sym, ap, subst, arith, inl, inr, append-nil}
 use Rattle.std.proofs.KnownBytes.{Consumes-trans}
 use Rattle.std.proofs.lemmas.List.{length-append, length-take, take-append-le, take_all}
 use Rattle.std.specs.Io.KnownBytes.{Consumes, IsAtEnd}
 use Rattle.zh_program.specs.Check.{IsSheetAt}
 
--- more was read
+-- More was read.
 pub read_on : (r mid r' : Option (List ℕ)) (text more text' : List ℕ)
     → Consumes r mid text → Consumes mid r' more → text' ≡ text ++ more → Consumes r r' text'
 read_on r mid r' text more text' before read is = subst (λ (l : List ℕ). Consumes r r' l) (sym is) (Consumes-trans r mid r' text more before read)
@@ -13,13 +13,13 @@ read_on r mid r' text more text' before read is = subst (λ (l : List ℕ). Cons
 pub few_on : (text more text' : List ℕ) → length text + length more ≤ 280065 → text' ≡ text ++ more → length text' ≤ 280065
 few_on text more text' few is = omega (arith, few, ap length is, length-append text more)
 
--- nothing was read
+-- Nothing was read.
 pub nothing_read : (r r' : Option (List ℕ)) (text buffer : List ℕ) (n : ℕ) → n ≡ 0 → Consumes r r' (take n buffer) → length text ≤ 280065
     → (bytes : List ℕ) × Consumes r r' bytes × (length text + length bytes ≤ 280065) × (text ≡ text ++ bytes)
 nothing_read r r' text buffer n none read few =
     ([], subst (λ (k : ℕ). Consumes r r' (take k buffer)) none read, omega arith, sym (append-nil text))
 
--- the first bytes of a buffer were read, and put at the end of the text
+-- The first bytes of a buffer were read and appended to the text.
 pub some_read : (r r' : Option (List ℕ)) (text text' buffer rest : List ℕ) (n : ℕ) → Consumes r r' (take n buffer) → n ≤ length buffer
     → length text + length buffer ≤ 280065 → text' ≡ text ++ take n (buffer ++ rest)
     → (bytes : List ℕ) × Consumes r r' bytes × (length text + length bytes ≤ 280065) × (text' ≡ text ++ bytes)
@@ -30,7 +30,7 @@ some_read r r' text text' buffer rest n read within few is = (
   is ∙ ap (λ (l : List ℕ). text ++ l) (take-append-le n buffer rest within),
 )
 
--- what was read before the end, or before there was enough, is the front
+-- What was read up to the end, or up to 280,065 bytes, is the sheet's prefix.
 pub front_read : (r r' : Option (List ℕ)) (text : List ℕ) → Consumes r r' text → length text ≤ 280065 → IsAtEnd r' ⊎ (length text ≡ 280065) → IsSheetAt r text
 front_read None r' text read few ends = tt
 front_read (Some all) None text read few ends = absurd read

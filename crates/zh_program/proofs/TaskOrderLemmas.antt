@@ -1,4 +1,4 @@
--- A loading, and then its answer, on a film.
+-- A load and its reply, on a film.
 use Rattle.std.proofs.Common.{◌≡◌, ℕ, List, [], ◌∷◌, ap, ◌∙◌, refl, Option}
 use Rattle.std.specs.Io.KnownBytes.{Appends}
 use Rattle.zh_commands.specs.declared.replies.Reply.{Reply}
@@ -25,13 +25,13 @@ module _ (w w' : Option (List ℕ)) (start end : OnDisk Office) (left : Option (
   alone : f1 ≡ frame_at old ∷ []
   alone = noted ∙ ap (λ (l : List Frame). now_at left w start.history.trail ∷ l) empty
 
-  -- its answer is written
+  -- The whole reply is written.
   pub told_whole : (f3 : List Frame) → f3 ≡ now_at left w' end.history.trail ∷ f2 → Appends w w' (printed reply)
       → IsFilmed (step_replied reply end ∷ []) (beside (streams left w f0) start) (beside (streams left w' f3) end)
   told_whole f3 last written =
       film_ends (frame_at old) (step ∷ []) (beside (streams left w' f3) end)
       (answered (frame_at old) [] old mid (beside (streams left w' f3) end) step (starts old alone) refl refl refl refl refl noted' last written)
 
-  -- a front of it is written
+  -- A prefix of the reply is written.
   pub told_part : WritesPart w w' (printed reply) → IsFilmed (step_replied reply end ∷ []) (beside (streams left w f0) start) (beside (streams left w' f2) end)
   told_part part = (broken (frame_at old) [] old mid (beside (streams left w' f2) end) step (starts old alone) refl refl refl refl refl noted' refl part.front part.written).0

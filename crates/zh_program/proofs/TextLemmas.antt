@@ -1,4 +1,4 @@
--- Texts that are read one after the other.
+-- Texts that are read one after another.
 use Rattle.std.proofs.Common.{◌∙◌, ◌+◌, ℕ, List, Ok, Err, arith, refl, inl, inr, subst, sym}
 use Rattle.zh_file.specs.Failures.{ForgetsNone}
 use Rattle.zh_file.specs.Files.{IsReadOfFiles, LeavesNoMore}
@@ -13,7 +13,7 @@ use Rattle.zh_program.specs.declared.fault.TaskFault.{TaskFault}
 use Rattle.zh_program.specs.declared.fault.TaskFault.TheVariants as faults
 use Rattle.zh_program.specs.declared.place.TaskFile.{TaskFile}
 
--- what is so of each fault for which a text is not opened
+-- What holds of every fault by which a text is not opened.
 pub unopened_as : (role : TaskFile) (Met : FileFault → Type 0) (P : TaskFault → Type 0) → P faults.Memory
     → ((cause : FileCause) → Met (of_files.Device cause) → P (faults.Unopened role cause))
     → (fault : TaskFault) → IsUnopened role Met fault → P fault
@@ -28,7 +28,7 @@ module _ {F T D R : Type 0} (files : Files F T D R) where
       → ForgetsNone (files.failed old) (files.failed new) → AreCalls files 1 old new
   one_call old new one leaves goes = record { counted = one.counted; texts = one.texts; disks = one.disks; stays = one.stays; leaves = leaves; goes = goes }
 
-  -- calls after calls
+  -- Calls followed by calls.
   pub calls_after : (n m : ℕ) (old mid new : F) → AreCalls files n old mid → AreCalls files m mid new → AreCalls files (n + m) old new
   calls_after n m old mid new one other = record {
     counted = omega (arith, one.counted, other.counted);
@@ -40,10 +40,10 @@ module _ {F T D R : Type 0} (files : Files F T D R) where
   }
 
   module _ {X : Type 0} (kind : TextKind X) (path : List ℕ) (old new : F) (one : AreCalls files 1 old new) where
-    -- a text was read
+    -- A text was read.
     pub gives : (x : X) → kind.Gives (files.text_at old path) x → ReadsText files kind path old new (Ok x)
     gives x is = record { call = one; read = is }
 
-    -- it gave nothing
+    -- The text gave nothing.
     pub lacks : (fault : TaskFault) → kind.Lacks (files.text_at old path) (IsMetAt files path old new) fault → ReadsText files kind path old new (Err fault)
     lacks fault is = record { call = one; read = is }

@@ -1,4 +1,4 @@
--- A tie above the lists leaves no seats that could be right.
+-- A tie in a step before the lists leaves no right seats.
 use Rattle.std.proofs.Common.{◌≡◌, ℕ, ◌+◌, ◌-◌, ◌≤◌, ◌↔◌, Bool, true, false, List, length, get_or, IsTrue, refl, sym, ◌∙◌, arith}
 use Rattle.std.proofs.lemmas.List.{ext_get_or}
 use Rattle.zh_districts.specs.Seats.{AreSeats, persons}
@@ -20,7 +20,7 @@ same_seats : (totals : VoteTotals) (seats others : List ℕ) → AreSeats totals
 same_seats totals seats others one other =
     only_fit (persons totals.canton) totals.canton.house seats others one (weak_from_strict (persons totals.canton) totals.canton.house others other)
 
--- two tests with one meaning
+-- Two tests that decide the same property are equal.
 same_test : (a b : Bool) (P : Type 0) → IsTrue a ↔ P → IsTrue b ↔ P → a ≡ b
 same_test true true P one other = refl
 same_test false false P one other = refl
@@ -47,11 +47,11 @@ same_sums totals seats a b one other =
     first ∙ sym second
     )
 
--- the seats of the constituencies are tied
+-- The seats of the constituencies are tied.
 pub tied_seats : (totals : VoteTotals) → fits.IsTied (persons totals.canton) totals.canton.house → LeaveNoSeats totals
 tied_seats totals tied a divisors seats strict = no_strict_fit (persons totals.canton) totals.canton.house a.seats tied a.constituencies.in_proportion
 
--- those of the groups
+-- The seats of the groups are tied.
 pub tied_above : (totals : VoteTotals) → IsRefusedAbove totals Tied → LeaveNoSeats totals
 tied_above totals tied a divisors below strict =
     let seats : tied.seats ≡ a.seats = same_seats totals a.seats tied.seats a.constituencies.in_proportion tied.constituencies.in_proportion in

@@ -1,5 +1,5 @@
--- What the order excludes. What is written by a time says which exchanges are answered by then, and with that how many commands
--- each image must have, and how many it may have.
+-- What the order excludes. The output by a time determines which exchanges are answered by then, and so how many commands each
+-- image must and may have.
 use Rattle.std.proofs.Common.{◌≡◌, ◌≢◌, ◌⊎◌, ◌<◌, ◌≤◌, ◌+◌, ℕ, List, [], ◌∷◌, ◌++◌, map, length, drop, take, Option, None, Some}
 use Rattle.std.proofs.Common.{inl, inr, ⊎_elim, sym, ◌∙◌, ap, subst, arith, append_assoc, append-nil, length-append, length-take}
 use Rattle.std.specs.Prelude.{flat_map}
@@ -21,7 +21,7 @@ use Rattle.zh_program.proofs.ExcludeLemmas.{HoldsAfter, always_at, same_length}
 use Rattle.zh_program.proofs.FrontLemmas.{logs_more, one_more, two_parts}
 use Rattle.zh_program.proofs.RunLemmas.{line_in_exchange}
 
--- times that follow each other do so by the order
+-- Consecutive times are in order.
 next_by : (P : Frame → Frame → Type 0) (first : Frame) (film : List Frame) (now : Frame) → InOrder P first film now
     → (a b : Frame) (newer older : List Frame) → now ∷ (film ++ first ∷ []) ≡ newer ++ b ∷ (a ∷ older) → P a b
 next_by P first [] now order a b [] older is =
@@ -39,7 +39,7 @@ next_by P first (f ∷ film) now order a b (n ∷ more) older is =
     let tail : f ∷ (film ++ first ∷ []) ≡ more ++ b ∷ (a ∷ older) = cc in
     next_by P first film f order.1 a b more older tail
 
--- what is appended to known bytes, or taken from them
+-- What is appended to known bytes, or taken from them.
 appended : (before more other : List ℕ) (old new : Option (List ℕ)) → old ≡ Some before → new ≡ Some (before ++ more)
     → Appends old new other
     → other ≡ more
@@ -62,7 +62,7 @@ after_known before more old (Some bytes) was a =
     let known : bytes ≡ before ++ more = subst (λ (o : Option (List ℕ)). Appends o (Some bytes) more) was a in
     ap Some known
 
--- what is told by the parts of the exchanges: those that are answered by the earlier time, one more at most, and the others
+-- The parts of the exchanges at two consecutive times: those answered by the earlier time, at most one more, and the rest.
 record IsParted (tally : Tally) (exchanges : List Exchange) (first a b : Frame) : Type 0 where
   done : List Exchange
   answered : Appends first.written a.written (flat_map text_of done)
@@ -112,7 +112,7 @@ module _ (tally : Tally) (before : Trail) (talk : Conversation) (exchanges : Lis
   tells : IsParted tally exchanges talk.first a b
   tells = parted tally exchanges talk.first a b follows.0
 
-  -- what of the exchanges is told, and what comes after it
+  -- The exchanges that are told, and those after them.
   others_of : (k : IsParted tally exchanges talk.first a b) → (others : List Exchange) × (exchanges ≡ k.told ++ others)
   others_of k = ⊎_elim
       (λ (is : k.told ≡ k.done). (k.one ++ k.rest, k.parts ∙ ap (λ (l : List Exchange). l ++ (k.one ++ k.rest)) (sym is)))
@@ -129,7 +129,7 @@ module _ (tally : Tally) (before : Trail) (talk : Conversation) (exchanges : Lis
       all_parts : exchanges ≡ (tells.done ++ tells.one) ++ tells.rest
       all_parts = tells.parts ∙ sym (append_assoc tells.done tells.one tells.rest)
 
-      -- no image without a command that is acknowledged in what is written
+      -- No image lacks a command that the output acknowledges.
       pub none_early : b.written ≡ Some (known ++ flat_map text_of done)
           → n < (log_of done).acknowledged
           → n ≤ length (log_of done).accepted
@@ -145,7 +145,7 @@ module _ (tally : Tally) (before : Trail) (talk : Conversation) (exchanges : Lis
           let same = equal is all_parts within some.within holds some.holds in
           omega (arith, same, fewer, some.at_least, logs.acknowledged)
 
-      -- and none with two commands more than are answered in it
+      -- No image has two commands more than the output answers.
       pub none_unanswered : a.written ≡ Some (known ++ flat_map text_of done)
           → length (log_of done).accepted + 1 < n
           → n ≤ length (log_of exchanges).accepted
@@ -161,7 +161,7 @@ module _ (tally : Tally) (before : Trail) (talk : Conversation) (exchanges : Lis
           let same = equal (sym (append-nil exchanges)) all_parts within some.within holds some.holds in
           omega (arith, same, more, some.within, logs.accepted, one_more k.done k.one k.single)
 
-    -- two first parts of the exchanges are the same if they have the same lines
+    -- Two prefixes of the exchanges are equal if they have the same lines.
     same_part : (xs A : List Exchange) → exchanges ≡ xs ++ A → map line_in_exchange xs ≡ map line_in_exchange done → xs ≡ done
     same_part xs A parts lines = ⊎_elim
         (λ (m : (zs : List Exchange) × (done ≡ xs ++ zs)). sym (no_longer xs done m.0 m.1 lines))
@@ -174,7 +174,7 @@ module _ (tally : Tally) (before : Trail) (talk : Conversation) (exchanges : Lis
             = omega (arith, ap length same, length-map ys line_in_exchange, length-map all line_in_exchange, ap length goes, length-append ys zs) in
             goes ∙ ap (λ (l : List Exchange). ys ++ l) (nil_from_length zs count) ∙ append-nil ys
 
-    -- no read before all lines that were read are answered
+    -- No read comes before all lines that were read are answered.
     pub none_late : a.kind ≡ Asks → (input left : List ℕ) → talk.first.left ≡ Some (input ++ left) → a.left ≡ Some left
         → map line_in_exchange done ≡ map Some (ended_lines input)
         → talk.first.written ≡ Some known

@@ -1,4 +1,4 @@
--- What a task touches of what stands somewhere.
+-- The files that a task touches.
 use Rattle.std.proofs.Common.{◌≡◌, ◌∙◌, ℕ, List, [], Option, Some, None, Result, ap, subst, sym, inl, inr, ⊎_elim, arith}
 use Rattle.std.specs.Prelude.{◌⊎◌, IfSome, MatchOption}
 use Rattle.zh_arguments.specs.declared.arguments.Paths.{Paths}
@@ -24,7 +24,7 @@ module _ (of : Known) where
   same_files : (old new : WorldOf of) → new.files ≡ old.files → of.files.places new.files ≡ of.files.places old.files
   same_files old new same = ap of.files.places same
 
-  -- work on a disk touches nothing that stands anywhere
+  -- Work on an open disk touches no place.
   work_stays : (work : Work) (canton : Canton) (before : WorldOf of × of.Disk) (after : WorldOf of × FilmedOf of) (result : Result (Unit {0}) TaskFault)
       → DoesOn of work canton before after result → of.files.places after.0.files ≡ of.files.places before.0.files
   work_stays works.Format canton before after result does = same_files before.0 after.0 (ap (λ (w : WorldOf of). w.files) does.rest)
@@ -41,7 +41,7 @@ module _ (of : Known) where
       (work_stays work uses.canton (record old { files = uses.files }, uses.first) (new, uses.last) ended.result uses.does) uses.asked.touches)
       by
 
-  -- a task that hands over no disk has ended before it had one
+  -- A task that hands over no disk ended before it had one.
   uses_leave : (work : Work) (paths : Paths) (old new : WorldOf of) (ended : EndOf of) → ended.used ≡ None → UsesDisk of work paths old new ended
       → LeavesOf (LeftAt work) (of.files.disk_at old.files paths.disk.now) (of.files.left old.files) (of.files.left new.files)
   uses_leave work paths old new ended none by = ⊎_elim
@@ -73,7 +73,7 @@ module _ (of : Known) where
   does_leave (tasks.SheetSeats setup sheet layout) old new ended by none = texts_leave _ _ old new ended.result by.1
   does_leave tasks.Version old new ended by none = same_leaves old new (ap (λ (w : WorldOf of). w.files) by.1)
 
-  -- and what is said after it leaves no more
+  -- The report after it leaves nothing more.
   pub left_after : (task : Task) (old after new : WorldOf of) (ended : EndOf of) → Does of task old after ended
       → new ≡ record after { faults = new.faults; remark = new.remark } → ended.used ≡ None
       → LeavesAsFound task (of.files.disk_at old.files) (of.files.left old.files) (of.files.left new.files)
@@ -107,14 +107,14 @@ module _ (of : Known) where
   does_touch (tasks.SheetSeats setup sheet layout) old new ended by = texts_stay _ _ old new ended.result by.1
   does_touch tasks.Version old new ended by = same_files old new (ap (λ (w : WorldOf of). w.files) by.1)
 
-  -- and what is said after it neither
+  -- The report after it touches nothing either.
   pub touched_after : (task : Task) (old after new : WorldOf of) (ended : EndOf of) → Does of task old after ended
       → new ≡ record after { faults = new.faults; remark = new.remark } → Touches (disk_path task) (of.files.places old.files) (of.files.places new.files)
   touched_after task old after new ended does rest =
       let same : of.files.places after.files ≡ of.files.places new.files = sym (ap of.files.places (ap (λ (w : WorldOf of). w.files) rest)) in
       subst (λ (known : Option Places). Touches (disk_path task) (of.files.places old.files) known) same (does_touch task old after ended does)
 
--- what is left is then what a formatting may make of an empty file, or as it was found
+-- What is left is as it was found, or what a formatting may make of an empty file.
 is_left : (task : Task) (found c : List ℕ) → IsLeftBy task found c → IsFilling found c
 is_left (Format paths) found c by = by
 is_left task found c by = inl by
@@ -122,7 +122,7 @@ is_left task found c by = inl by
 none_holds : (tally : Tally) → Holds tally [] → ⊥
 none_holds tally holds = let gate = holds.clean.framed.gate in absurd (omega (arith, gate))
 
--- and holds what was held
+-- What is left holds the count that was held.
 pub still_held : (task : Task) (disk_at : List ℕ → Option (List ℕ)) (old new : List ℕ → Type 0) (tally : Tally) (path bytes c : List ℕ)
     → LeavesAsFound task disk_at old new → disk_path task ≡ Some path → disk_at path ≡ Some bytes → Holds tally bytes
     → new c → old c ⊎ Holds tally c

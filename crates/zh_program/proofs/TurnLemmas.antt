@@ -1,5 +1,5 @@
--- What an office leaves of its disk that is given one thing after the other: what is so of each exchange by those before it, as
--- long as the office is where these have led it.
+-- What an office leaves of its disk when it is given one thing after another: what holds of each exchange given those before
+-- it, as long as the office is in the state that they lead to.
 use Rattle.std.proofs.Common.{◌≡◌, ◌≢◌, ℕ, List, [], ◌∷◌, ◌++◌, length, refl, sym, ◌∙◌, ap, subst, append_assoc, IsTrue, Option, None, Result, Ok, Err}
 use Rattle.std.proofs.lemmas.List.{append-nil}
 use Rattle.std.specs.Prelude.{IfSome}
@@ -27,11 +27,11 @@ use Rattle.zh_program.proofs.AnsweredLemmas.{AllStoreNone, IsFair, acts_fair, ac
 use Rattle.zh_program.proofs.ExchangeLemmas.{acts_log, disk_more, held_more, log_more}
 use Rattle.zh_program.proofs.SoundLemmas.{GoesOnBy, IsSoundBy, acts_accepted, acts_goes_on, acts_same}
 
--- between two exchanges an image has what is acknowledged by then
+-- Between two exchanges, an image has what is acknowledged by then.
 abbrev pub AtRest : Tally → Trail → List Exchange → Type 0
 AtRest tally opened done = (c : List ℕ) → IsImage (disk_by opened done).now c → HasSome tally (log_of done).accepted (log_of done).acknowledged c
 
--- what is so of an exchange, by those before it
+-- What holds of an exchange, given those before it.
 pub record IsOne (tally : Tally) (opened : Trail) (done : List Exchange) (x : Exchange) : Type 0 where
   pub read : IsReadRight tally.canton x.given
   pub command : x.command ≡ command_given (held_by no_batches done) x.given
@@ -43,12 +43,12 @@ pub record IsOne (tally : Tally) (opened : Trail) (done : List Exchange) (x : Ex
   pub stopped : Always (HasSome tally (log_of (done ++ x ∷ [])).accepted (log_of done).acknowledged) (disk_by opened done) x.disk
   pub fair : IsFair (totals_of x.count) x.answer
 
--- and of each of these
+-- The same for each of these exchanges.
 abbrev pub AreTurns : Tally → Trail → List Exchange → List Exchange → Type 0
 AreTurns tally opened done [] = AtRest tally opened done
 AreTurns tally opened done (x ∷ xs) = AtRest tally opened done × IsOne tally opened done x × AreTurns tally opened (done ++ x ∷ []) xs
 
--- the office is where these exchanges have led it
+-- The office is in the state that these exchanges lead to.
 pub record IsAt (tally : Tally) (opened : Trail) (done : List Exchange) (o : OnDisk Office) : Type 0 where
   pub disk : disk_by opened done ≡ o.history.trail
   pub held : held_by no_batches done ≡ o.holder.held
@@ -57,7 +57,7 @@ pub record IsAt (tally : Tally) (opened : Trail) (done : List Exchange) (o : OnD
 pub at_rest : (tally : Tally) (opened : Trail) (done : List Exchange) (o : OnDisk Office) → IsAt tally opened done o → AtRest tally opened done
 at_rest tally opened done o at c image = at.sound.each c (subst (λ (t : Trail). IsImage t.now c) at.disk image)
 
--- something is given, and answered
+-- Something is given and answered.
 module _ (tally : Tally) (opened : Trail) (done : List Exchange) (old new : OnDisk Office)
     (given : Given) (command : Option Command) (May : Answer → Type 0) (answer : Answer) (more : Log)
     (at : IsAt tally opened done old) (honest : IsTrue new.history.honest)
@@ -102,11 +102,11 @@ module _ (tally : Tally) (opened : Trail) (done : List Exchange) (old new : OnDi
     fair = acts_fair (its_ledger old) (its_ledger new) command May answer more fair acts;
   }
 
-  -- it is one exchange more, and leads the office on
+  -- It is one exchange more and leads to the next state.
   pub one_more : IsOne tally opened done x × IsAt tally opened (done ++ x ∷ []) new
   one_more = (one_is, one_then)
 
--- the exchange of a line
+-- The exchange of a line.
 abbrev pub exchange_of : (old : OnDisk Office) (bytes : List ℕ) (answer : Answer) (new : OnDisk Office) → Turn old bytes answer new → Exchange
 exchange_of old bytes answer new turn = record {
   given = line bytes turn.reading;
@@ -126,7 +126,7 @@ line_held : (held : Held) (bytes : List ℕ) (reading : Result Line LineFault) (
 line_held held bytes (Ok read) answer = refl
 line_held held bytes (Err fault) answer = refl
 
--- a line is one exchange more
+-- A line is one exchange more.
 pub turn_more : (tally : Tally) (opened : Trail) (done : List Exchange) (old : OnDisk Office) (bytes : List ℕ) (answer : Answer) (new : OnDisk Office)
     (turn : Turn old bytes answer new)
     → IsTrue new.history.honest
@@ -142,7 +142,7 @@ turn_more tally opened done old bytes answer new turn honest at =
     one_more tally opened done old new given command May answer turn.log at honest turn.acts fair turn.reads gives held
 
 module _ (tally : Tally) (opened : Trail) where
-  -- what is so of each in turn is so wherever it stands
+  -- What holds of each exchange in its turn holds wherever it is in the list.
   pub at_one : (done before rest : List Exchange) (x : Exchange) (xs : List Exchange) → AreTurns tally opened done xs → xs ≡ before ++ x ∷ rest → IsOne tally opened (done ++ before) x
   at_one done [] rest x [] turns is = absurd cc
   at_one done [] rest x (y ∷ ys) turns is =

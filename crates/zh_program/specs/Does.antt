@@ -1,4 +1,4 @@
--- What the program does, as one word for whoever hands on its status.
+-- What the program does, as one record for callers that pass on its status.
 use Rattle.std.specs.Prelude.{◌≡◌, ◌≢◌, ◌≤◌, ◌⊎◌, ℕ, List, [], ◌∷◌, ◌++◌, codes, Option, Some, None, Ok}
 use Rattle.std.specs.declared.io.ErrorKind.{ErrorKind}
 use Rattle.std.specs.declared.io.ErrorKind.TheVariants as kinds
@@ -16,7 +16,8 @@ use Rattle.zh_program.specs.Program.{LeavesAsFound, MetFault, NothingDone, disk_
 use Rattle.zh_program.specs.Promise.{Promise, RehearsalPromise}
 use Rattle.zh_program.specs.Reports.{report_text}
 
--- The clauses of `program`, by their names: of these arguments, a world before and after, its status, and what it hands over.
+-- The clauses of `program` under their names: for the arguments, the world before and after, the status, and what is handed
+-- over.
 pub record ProgramDoes (of : Known) (arguments : List (List ℕ)) (old new : WorldOf of) (status : ℕ)
     (used : Option (UsedOf of)) : Type 0 where
   pub bound : status ≤ 2
@@ -32,8 +33,8 @@ pub record ProgramDoes (of : Known) (arguments : List (List ℕ)) (old new : Wor
       × (used ≡ None → LeavesAsFound task (of.files.disk_at old.files) (of.files.left old.files) (of.files.left new.files)))
   pub refused : status ≡ 2 → (refusals arguments ≢ []) × NothingDone old new used
 
--- Of arguments that can't be read, by the kind of the error: the status, and what is said. One of them is not UTF-8, and a LF, which
--- is 10, ends the line; or memory was refused for them.
+-- For arguments that can't be read, by the kind of the error: the status and the report. Either one of them is not UTF-8 (10 is
+-- the LF that ends the line), or memory was refused.
 abbrev pub unread : ErrorKind → ℕ × List ℕ
 unread kinds.InvalidData = (2, codes "error: an argument is not UTF-8" ++ 10 ∷ [])
 unread kind = (1, report_text None faults.Memory)

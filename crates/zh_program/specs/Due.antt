@@ -14,7 +14,7 @@ use Rattle.zh_program.specs.Exchanges.{Exchange, line_in, text_of}
 use Rattle.zh_program.specs.Exchanges.Given.{text}
 use Rattle.zh_program.specs.Order.{Conversation}
 
--- of the answer to the last exchange a front is written, and not all of it; those before it are written whole
+-- Only a part of the answer to the last exchange is written. The answers before it are written whole.
 pub record IsCutShort (talk : Conversation) (exchanges : List Exchange) : Type 0 where
   pub whole : List Exchange
   pub last : Exchange
@@ -23,8 +23,9 @@ pub record IsCutShort (talk : Conversation) (exchanges : List Exchange) : Type 0
   pub part : front < length (text_of last)
   pub written : Appends talk.first.written talk.last.written (flat_map text_of whole ++ take front (text_of last))
 
--- The lines of the input that are due, with status 0 all of them, are answered in order, and their answers written; or a
--- write failed, and the answers break off.
+-- The due lines of the input are answered in order and the answers are written. All lines are due if the input was read to its
+-- end; otherwise only the complete ones are, and the status is not 0. If a write failed, the answers break off and the status
+-- is not 0.
 pub record AnswerLines (talk : Conversation) (status : ℕ) (exchanges : List Exchange) : Type 0 where
   pub input : List ℕ
   pub read : Consumes talk.first.left talk.last.left input
@@ -35,8 +36,8 @@ pub record AnswerLines (talk : Conversation) (status : ℕ) (exchanges : List Ex
   pub written : ((others ≡ []) × Appends talk.first.written talk.last.written (flat_map text_of exchanges))
       ⊎ ((status ≢ 0) × IsCutShort talk exchanges)
 
--- The text of a file, whose bytes may be known, is loaded as the one exchange, and the reply written, or with another status
--- than 0 a front of it; or, again not with status 0, there is no exchange, as the file gave no text.
+-- The text of a file, whose bytes may be known, is loaded as the only exchange and the reply is written. With a status other
+-- than 0, the reply may be written in part, or there may be no exchange, because the file gave no text.
 pub record AnswerText (known : Option (List ℕ)) (talk : Conversation) (status : ℕ) (exchanges : List Exchange) : Type 0 where
   pub bytes : Option (List ℕ)
   pub read : Keeps known bytes
@@ -45,14 +46,14 @@ pub record AnswerText (known : Option (List ℕ)) (talk : Conversation) (status 
   pub written : Appends talk.first.written talk.last.written (flat_map text_of exchanges)
       ⊎ ((status ≢ 0) × IsCutShort talk exchanges)
 
--- where texts may be known by their paths, these are the exchanges of a task in this conversation: only a run and a load have some
+-- The exchanges of a task in this conversation, where the texts at paths may be known. Only a run and a load have exchanges.
 abbrev pub AreOfTask : (List ℕ → Option (List ℕ)) → Task → Conversation → ℕ → List Exchange → Type 0
 AreOfTask text_at (Run paths) talk status exchanges = AnswerLines talk status exchanges
 AreOfTask text_at (Load paths csv) talk status exchanges = AnswerText (text_at csv.now) talk status exchanges
 AreOfTask text_at task talk status exchanges = exchanges ≡ []
 
--- the conversation from the one world to the other, in which the disk went from the one trail to the other, and a film shows this;
--- no read comes just before or after it
+-- The conversation from the world `old` to `new`, while the disk goes from `opened` to `last`, with the times that a film
+-- shows. No read directly follows its first or its last time.
 abbrev pub conversation : (of : Known) → WorldOf of → WorldOf of → Trail → Trail → List Frame → Conversation
 conversation of old new opened last noted = record {
   first = record { kind = Between; left = of.readers.remaining old.input; written = of.writers.contents old.output; disk = opened };
@@ -60,7 +61,8 @@ conversation of old new opened last noted = record {
   last = record { kind = Between; left = of.readers.remaining new.input; written = of.writers.contents new.output; disk = last };
 }
 
--- That of a task, once its disk was opened. One that answers no line and loads no text has none, whatever else it writes.
+-- The conversation of a task after its disk was opened. A task that answers no lines and loads no text has an empty one,
+-- whatever else it writes.
 abbrev pub talk_of : (of : Known) → Task → WorldOf of → WorldOf of → Trail → FilmedOf of → Conversation
 talk_of of (Run paths) old new opened used =
     conversation of old new opened (of.disks.history used.disk).trail (frames of.readers of.writers of.disks used.film)

@@ -22,40 +22,40 @@ use Rattle.zh_office.specs.declared.answer.Answer.{Answer}
 use Rattle.zh_office.specs.declared.answer.Answer.TheVariants.{Reply, Sheet}
 use Rattle.zh_office.specs.Runs.{answer_text}
 
--- the bytes of a line, and what it is read as; or a text that is loaded, whose bytes may be unknown, and what it loads
+-- A line's bytes and what it parses as; or a loaded text, whose bytes may be unknown, and what it loads.
 pub data Given : Type 0 where
   line : List ℕ → Result Line LineFault → Given
   text : Option (List ℕ) → Result (List Row) LoadFault → Given
 
--- this is what the line says; or the text, if its bytes are known, has the names and then these rows, which make a batch
+-- The line parses as this; or the text, if its bytes are known, has the header and then these rows, which load as a batch.
 abbrev pub IsReadRight : Canton → Given → Type 0
 IsReadRight canton (line bytes reading) = ParsesAs bytes reading
 IsReadRight canton (text bytes (Ok rows)) = AreLoaded canton rows × IfSome bytes (λ known. AreAll known (names ∷ map fields rows))
 IsReadRight canton (text bytes (Err fault)) = Unit {0}
 
--- the command that it gives, if any: that of a line by what the desks hold, or all rows of a text as one batch
+-- The command that it gives, if any: for a line by what the desks hold, for a text all rows as one batch.
 abbrev pub command_given : Held → Given → Option Command
 command_given held (line bytes (Ok read)) = command_of read.desk (rows_of held read.desk) read.request
 command_given held (text bytes (Ok rows)) = batch_of 0 (Some rows)
 command_given held given = None
 
--- what the desks hold after this answer to it
+-- What the desks hold after this answer.
 abbrev pub held_then : Held → Given → Answer → Held
 held_then held (line bytes (Ok read)) answer = held_after held read answer
 held_then held given answer = held
 
--- the text of the answer to it, where so many commands are accepted: to a line under its desk, to a text without one; 10 is LF
+-- The text of the answer, at this number of accepted commands. A line's answer names its desk, a text's does not; 10 is LF.
 abbrev pub answer_to_given : Given → ℕ → Answer → List ℕ
 answer_to_given (line bytes reading) accepted answer = answer_text (desk_of bytes) accepted answer
 answer_to_given (text bytes loaded) accepted (Reply reply) = replies.answer reply ++ 10 ∷ []
 answer_to_given (text bytes loaded) accepted (Sheet sheet is_final) = []
 
--- the bytes of a line; a text is none
+-- The bytes of a line; None for a text.
 abbrev pub line_in : Given → Option (List ℕ)
 line_in (line bytes reading) = Some bytes
 line_in (text bytes loaded) = None
 
--- what came in, the command that it gave, if any, and its answer; the count and the disk by then
+-- One input, the command that it gave, if any, and its answer; then the count and the disk.
 pub record Exchange : Type 0 where
   pub given : Given
   pub command : Option Command
@@ -63,34 +63,35 @@ pub record Exchange : Type 0 where
   pub count : Tally
   pub disk : Trail
 
--- so it is of each of these exchanges, by those prior to it
+-- P holds for each of these exchanges and those before it.
 abbrev pub EachIn : List Exchange → (List Exchange → Exchange → Type 0) → Type 0
 EachIn exchanges P = (prior rest : List Exchange) (x : Exchange) → exchanges ≡ prior ++ x ∷ rest → P prior x
 
--- `stored` acknowledges a command; after `device` one is accepted too, and the disk may have it or not
+-- What an answer adds to the log: `stored` acknowledges the command; after `device` the command is accepted, and the disk may
+-- or may not have it.
 abbrev pub log_by : Option Command → Answer → Log
 log_by None answer = nothing
 log_by (Some command) (Reply (Stored number)) = record { accepted = command ∷ []; acknowledged = 1 }
 log_by (Some command) (Reply (Refused refusals.Device)) = record { accepted = command ∷ []; acknowledged = 0 }
 log_by (Some command) answer = nothing
 
--- the commands that were accepted, in order, and how many of them were acknowledged
+-- The accepted commands, in order, and how many of them were acknowledged.
 abbrev pub log_of : List Exchange → Log
 log_of [] = nothing
 log_of (x ∷ xs) = followed_by (log_by x.command x.answer) (log_of xs)
 
--- the count after those that were acknowledged
+-- The count after the acknowledged commands.
 abbrev pub count_by : Tally → Log → Tally
 count_by tally log = after tally (take log.acknowledged log.accepted)
 
--- what the desks hold after these
+-- What the desks hold after these exchanges.
 abbrev pub held_by : Held → List Exchange → Held
 held_by = fold (λ held x. held_then held x.given x.answer)
 
--- the disk after these, that of the last of them
+-- The disk after these exchanges.
 abbrev pub disk_by : Trail → List Exchange → Trail
 disk_by = fold (λ disk x. x.disk)
 
--- the text of an answer
+-- The text of the answer in an exchange.
 abbrev pub text_of : Exchange → List ℕ
 text_of x = answer_to_given x.given x.count.accepted x.answer

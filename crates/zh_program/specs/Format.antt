@@ -1,4 +1,4 @@
--- What a formatting does.
+-- Formatting a disk.
 use Rattle.std.specs.Prelude.{◌≡◌, ◌⊎◌, Bool, true, false, List, [], ℕ, nat_lt, Result, Ok, Err, IfErr, IsErrOf, OnOk}
 use Rattle.zh_districts.specs.Canton.{Canton}
 use Rattle.zh_districts.specs.Spelling.{setup_spelling}
@@ -20,25 +20,25 @@ use Rattle.zh_program.specs.World.{Known, WorldOf}
 use Rattle.zh_program.specs.declared.fault.TaskFault.{TaskFault}
 use Rattle.zh_program.specs.declared.fault.TaskFault.TheVariants as faults
 
--- the fault of a store that is not formatted, as the task's
+-- The fault of formatting a store, as the fault of the task.
 abbrev pub FormattedAs : store.FormatFault → TaskFault → Type 0
 FormattedAs of_store.Memory e = e ≡ faults.Memory
 FormattedAs of_store.Device e = e ≡ faults.Device
 
--- a formatting reports a fault of the device
+-- Whether a formatting reports a fault of the device.
 abbrev pub format_fails : Result (Unit {0}) TaskFault → Bool
 format_fails (Err faults.Device) = true
 format_fails result = false
 
--- a formatting reports memory, the device, or that the disk is in use
+-- A formatting only fails for memory, for the device, or because the disk is in use.
 abbrev pub IsOfFormat : TaskFault → Type 0
 IsOfFormat faults.Memory = Unit {0}
 IsOfFormat faults.Device = Unit {0}
 IsOfFormat faults.InUse = Unit {0}
 IsOfFormat fault = ⊥
 
--- What a formatting leaves of a disk, moment by moment: it is opened, and formatted only where it is blank, and memory for it is not
--- refused.
+-- What a formatting leaves of a disk, moment by moment: it is opened, and formatted only if it is blank. If memory is refused,
+-- it is only opened.
 pub record FormatsBlank (canton : Canton) (result : Result (Unit {0}) TaskFault) (old new : Trail) : Type 0 where
   pub opened : Trail
   pub opening : Leaves (Settles old.now.bytes) old opened
@@ -50,18 +50,18 @@ pub record FormatsBlank (canton : Canton) (result : Result (Unit {0}) TaskFault)
   pub in_use : IsErrOf result faults.InUse → IsBlank old.now.bytes → ⊥
   pub unformatted : IsErrOf result faults.Memory → new ≡ opened
 
--- one thing or the other
+-- The one or the other, by the flag.
 abbrev pub SaysIf : Bool → Type 0 → Type 0 → Type 0
 SaysIf true said unsaid = said
 SaysIf false said unsaid = unsaid
 
--- what is said where a disk was made: how many problems keep the set-up from giving seats, and nothing where there are none
+-- What is said after a disk was formatted: how many problems keep the set-up from giving seats, or nothing if there are none.
 abbrev pub SaysProblems : Canton → (List ℕ → Type 0) → Type 0 → Result (Unit {0}) TaskFault → Type 0
 SaysProblems canton Said unsaid (Ok done) = (problems : SetupProblems) × AreProblems canton problems
     × SaysIf (nat_lt 0 (problem_count problems)) (Said (problems_line (problem_count problems))) unsaid
 SaysProblems canton Said unsaid (Err fault) = unsaid
 
--- a formatting of a disk, and what it says: nothing else is touched
+-- A disk is formatted, with a remark on problems. Nothing else in the world changes.
 pub record Formatted (of : Known) (canton : Canton) (before after : WorldOf of × of.Disk)
     (result : Result (Unit {0}) TaskFault) : Type 0 where
   pub rest : after.0 ≡ record before.0 { faults = after.0.faults; remark = after.0.remark }

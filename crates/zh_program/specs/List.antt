@@ -1,4 +1,4 @@
--- What the writing of a table of the set-up does.
+-- Writing a table of the set-up.
 use Rattle.std.specs.Prelude.{◌≡◌, ◌⊎◌, ℕ, Bool, true, false, List, [], ◌∷◌, ◌++◌, codes, Result, IsErrAnd}
 use Rattle.zh_districts.specs.Canton.{Canton}
 use Rattle.zh_tables.specs.Returns.{exceeds_load}
@@ -14,36 +14,36 @@ use Rattle.zh_program.specs.declared.fault.TaskFault.TheVariants as faults
 use Rattle.zh_program.specs.declared.shown.Shown.{Shown}
 use Rattle.zh_program.specs.declared.shown.Shown.TheVariants.{Text, Advised}
 
--- why a table is not made in memory, as the fault of the task: memory, the refusal of the seats, or a part that the set-up does
--- not have
+-- Why a table is not made in memory, as the fault of the task: memory was refused, the seats were refused, or the set-up does
+-- not have the part.
 abbrev pub RefusedAs : ListFault → TaskFault → Type 0
 RefusedAs lists.Memory e = e ≡ faults.Memory
 RefusedAs lists.Write e = e ≡ faults.Memory
 RefusedAs why e = e ≡ faults.Table why
 
--- the fault of a task for which a table of this set-up is not made
+-- The fault of a task if the table of this set-up can't be made.
 abbrev pub RefusesList : Canton → Table → TaskFault → Type 0
 RefusesList canton table fault = (why : ListFault) × RefusedAs why fault × RefusesTable canton table why
 
--- the line that says how to split a table of more returns than one loading takes, with its LF, which is 10
+-- The line that says how to split a table with more returns than one load takes, with its LF, which is 10.
 abbrev pub advice : List ℕ
 advice = codes "zhcount: more than 1,000 returns, to be split by --constituency or --municipality" ++ 10 ∷ []
 
--- this text, and beside it how to split it, where it has to be
+-- This text, with advice to split it if it is too long.
 abbrev pub IsSplitIf : Bool → List ℕ → Shown → Type 0
 IsSplitIf true text (Advised written line) = (written.items ≡ text) × (line.items ≡ advice)
 IsSplitIf false text (Text written) = written.items ≡ text
 IsSplitIf exceeds text shown = ⊥
 
--- what may be shown of a table of this set-up
+-- What may be shown of a table of this set-up.
 abbrev pub MayList : Canton → Table → Shown → Type 0
 MayList canton table shown = (text : List ℕ) × IsTableText canton table text × IsSplitIf (exceeds_load canton table) text shown
 
--- a table of this set-up is shown; or it is refused, and nothing is written
+-- A table of this set-up is shown; or its making fails and nothing is written.
 abbrev pub Lists : (of : Known) → Table → Canton → WorldOf of → WorldOf of → Result (Unit {0}) TaskFault → Type 0
 Lists of table canton old new result =
     (IsErrAnd result (RefusesList canton table) × (new ≡ old)) ⊎ Shows of (MayList canton table) old new result
 
--- a table of the set-up at this path is written
+-- A table of the set-up at this path is written.
 abbrev pub Listed : (of : Known) → List ℕ → Table → WorldOf of → WorldOf of → Result (Unit {0}) TaskFault → Type 0
 Listed of path table = UsesTexts of (ReadsText of.files a_setup path) (Lists of table)

@@ -1,4 +1,4 @@
--- What the loading of a CSV file does.
+-- Loading a CSV file.
 use Rattle.std.specs.Prelude.{◌≡◌, ◌≢◌, ◌⊎◌, ◌<◌, ◌+◌, ℕ, Bool, true, false, IsTrue}
 use Rattle.std.specs.Prelude.{List, [], ◌∷◌, ◌++◌, length, take, Option, Some, None, Result, Ok, Err, IsErrAnd}
 use Rattle.std.specs.Io.KnownBytes.{Appends, Keeps}
@@ -26,15 +26,15 @@ use Rattle.zh_program.specs.declared.place.TaskFile.TheVariants as files
 use Rattle.zh_program.specs.declared.fault.TaskFault.{TaskFault}
 use Rattle.zh_program.specs.declared.fault.TaskFault.TheVariants as faults
 
--- a reply as it is printed: without a desk, and ended by LF, which is 10
+-- A reply as it is written: without a desk number, and ended by LF, which is 10.
 abbrev pub printed : Reply → List ℕ
 printed reply = answer reply ++ 10 ∷ []
 
--- a loading that is answered, in the order of a conversation
+-- The load and its reply, as one step in the order of a conversation.
 abbrev pub step_replied : Reply → OnDisk Office → Step
 step_replied reply new = record { line = None; text = printed reply; disk = new.history.trail }
 
--- what is known of a text that was read: its bytes, or nothing of them; and whether a read of it failed
+-- What is known of a text that was read: its bytes, if known, and whether a read failed.
 pub record GivenText : Type 0 where
   pub bytes : Option (List ℕ)
   pub failed : Bool
@@ -42,13 +42,13 @@ pub record GivenText : Type 0 where
 abbrev pub given_text : Option (List ℕ) → Bool → GivenText
 given_text bytes failed = record { bytes = bytes; failed = failed }
 
--- a read of this text failed, if there is one
+-- Whether a read of the text failed; false if no text was loaded.
 abbrev pub failed_of : {R : Type 0} → Option (NotedReader R) → Bool
 failed_of None = false
 failed_of (Some reader) = has_failed reader
 
--- An office that began so was given this text, and replied so. On an honest disk its batch is kept as a command of a run is.
--- The reply is written, whole or in part, once that is done.
+-- An office, from `start` to `end`, was given this text and gave this reply. On an honest disk, its batch is kept like a
+-- command of a run. The reply is written, whole or in part, after that.
 pub record Replied (text : GivenText) (old new : Streams) (Spans : OnDisk Office → OnDisk Office → Type 0)
     (reply : Reply) : Type 0 where
   pub start : OnDisk Office
@@ -58,20 +58,20 @@ pub record Replied (text : GivenText) (old new : Streams) (Spans : OnDisk Office
   pub kept : IsTrue end.history.honest → IsLogged (its_ledger start) turn.log (its_ledger end)
   pub order : IsFilmed (step_replied reply end ∷ []) (beside old start) (beside new end)
 
--- the reply is written, and the device failed under it or not
+-- The whole reply is written. `faulted` says whether the device failed during the load.
 pub record Loaded (text : GivenText) (old new : Streams) (Spans : OnDisk Office → OnDisk Office → Type 0)
     (reply : Reply) (faulted : Bool) : Type 0 where
   pub replied : Replied text old new Spans reply
   pub written : Appends old.written new.written (printed reply)
   pub device : replied.end.holder.ledger.store.broken ≡ faulted
 
--- a front of a text is written, and not all of it
+-- A proper prefix of a text is written.
 pub record WritesPart (writer writer' : Option (List ℕ)) (text : List ℕ) : Type 0 where
   pub front : ℕ
   pub part : front < length text
   pub written : Appends writer writer' (take front text)
 
--- what the loading of this text with this result has done
+-- What loading this text with this result has done.
 abbrev pub LoadsText : GivenText → Streams → Streams → (OnDisk Office → OnDisk Office → Type 0)
     → Result (Unit {0}) TaskFault → Type 0
 LoadsText text old new Spans (Ok done) =
@@ -82,31 +82,31 @@ LoadsText text old new Spans (Err faults.Write) =
     (reply : Reply) × Replied text old new Spans reply × WritesPart old.written new.written (printed reply)
 LoadsText text old new Spans (Err fault) = ⊥
 
--- some of its bytes are read, where it is known to have any
+-- Some of the bytes are read, if it is known that there are any.
 abbrev pub HasBegun : Option (List ℕ) → List ℕ → Type 0
 HasBegun None read = Unit {0}
 HasBegun (Some bytes) read = (bytes ≡ []) ⊎ (0 < length read)
 
--- the file gives no text, or the call for it met a fault
+-- The file gives no text, or the call that opens it met a fault.
 abbrev pub IsUnreadable : (FileFault → Type 0) → TaskFault → Type 0
 IsUnreadable Met (faults.Unopened files.Csv cause) = Met (of_files.Device cause)
 IsUnreadable Met (faults.Unreadable files.Csv) = Unit {0}
 IsUnreadable Met faults.Memory = Unit {0}
 IsUnreadable Met fault = ⊥
 
--- the file gave this text, which was loaded; or it gave none, and an office was only opened
+-- The file gave this text, which was loaded; or it gave none, and the office was only opened.
 abbrev pub LoadsFile : (FileFault → Type 0) → Type 0 → ((OnDisk Office → OnDisk Office → Type 0) → Result (Unit {0}) TaskFault → Type 0)
     → (OnDisk Office → OnDisk Office → Type 0) → Result (Unit {0}) TaskFault → Type 0
 LoadsFile Met unwritten Loads Spans result =
     Loads Spans result ⊎ (IsErrAnd result (IsUnreadable Met) × unwritten × IsOnlyOpened Spans)
 
--- how many calls of the files are made: one, for the text, where an office was opened
+-- The number of calls of the files: one, for the text, if an office was opened.
 abbrev pub text_calls : Result (Unit {0}) TaskFault → ℕ
 text_calls (Err (faults.Open fault)) = 0
 text_calls result = 1
 
--- The loading of the CSV file at this path into the office that stands on a disk, its film, and the reader of the text: that file
--- is looked for once the office is opened, and no other one is. It is the text that is loaded, where its bytes are known.
+-- Loading the CSV file at this path into the office on a disk, its film, and the reader of the text. The file is opened only
+-- after the office, and no other file is. What is loaded is the text at the path, if its bytes are known.
 pub record HasLoaded (of : Known) (csv : List ℕ) (canton : Canton) (before : WorldOf of × of.Disk) (after : WorldOf of × FilmedOf of)
     (result : Result (Unit {0}) TaskFault) : Type 0 where
   pub rest : after.0 ≡ record before.0 { output = after.0.output; files = after.0.files }

@@ -1,4 +1,4 @@
--- The path of the file that a fault is of, and how it is shown.
+-- The path of the file in which a fault occurred, and how it is shown.
 use Rattle.std.specs.Prelude.{ℕ, List, length, min, Option, Some, None, option_and_then, option_map}
 use Rattle.zh_arguments.specs.declared.arguments.Paths.{Paths}
 use Rattle.zh_arguments.specs.declared.arguments.Task.{Task}
@@ -11,19 +11,19 @@ use Rattle.zh_program.specs.declared.fault.TaskFault.{TaskFault}
 use Rattle.zh_program.specs.declared.place.TaskFile.{TaskFile}
 use Rattle.zh_program.specs.declared.place.TaskFile.TheVariants as files
 
--- of a set-up and a disk
+-- The path of the set-up or of the disk, for a task that is given both.
 abbrev pub path_among : Paths → TaskFile → Option (List ℕ)
 path_among paths files.Setup = Some paths.setup.now
 path_among paths files.Disk = Some paths.disk.now
 path_among paths file = None
 
--- of a set-up and a sheet
+-- The path of the set-up or of the sheet, for a task that is given both.
 abbrev pub path_stated : List ℕ → List ℕ → TaskFile → Option (List ℕ)
 path_stated setup sheet files.Setup = Some setup
 path_stated setup sheet files.Sheet = Some sheet
 path_stated setup sheet file = None
 
--- the path of a file of a task, if it is given one
+-- The path of the file, if the task is given one.
 abbrev pub file_path : Task → TaskFile → Option (List ℕ)
 file_path Rehearse file = None
 file_path (Format paths) file = path_among paths file
@@ -40,10 +40,10 @@ file_path (Check paths) file = path_stated paths.setup.now paths.sheet.now file
 file_path (tasks.SheetSeats setup sheet layout) file = path_stated setup.now sheet.now file
 file_path tasks.Version file = None
 
--- the path of the file that a fault of a task is of
+-- The path of the file in which a fault of the task occurred, if it was a file with a path.
 abbrev pub fault_path : Task → TaskFault → Option (List ℕ)
 fault_path task fault = option_and_then (file_path task) (role_of fault)
 
--- a path, of which at most 4,096 bytes are shown: no file has a longer one
+-- A path as it is shown: at most 4,096 bytes. Linux accepts no longer path.
 abbrev pub shown_path : List ℕ → List ℕ
 shown_path path = each_to (min (length path) 4096) (safe_byte path)

@@ -1,4 +1,4 @@
--- Where a task met its fault, or why, and the file that it is of.
+-- Where a fault occurred, its cause, and the file.
 use Rattle.std.specs.Prelude.{Option, Some, None, option_map}
 use Rattle.zh_ledger.specs.declared.opening.OpenFault.TheVariants as opening
 use Rattle.zh_setups.specs.declared.text.SetupFault.TheVariants as of_setup
@@ -11,24 +11,24 @@ use Rattle.zh_program.specs.declared.place.TaskFile.TheVariants as files
 use Rattle.zh_program.specs.declared.place.TaskPlace.{TaskPlace}
 use Rattle.zh_program.specs.declared.place.TaskPlace.TheVariants as places
 
--- a place in the text of a set-up, of a fault: where a value is not within its limits these are told
+-- A place in the text of a set-up. If its value is out of range, the report also shows the limits.
 abbrev pub place_in_setup : SetupFault → FaultPlace → TaskPlace
 place_in_setup of_setup.Range place = places.Range place
 place_in_setup fault place = places.Setup place
 
--- the place that a fault names, or its cause
+-- The place that a fault names, or its cause.
 abbrev pub named_place : TaskFault → Option TaskPlace
 named_place (faults.Unopened file cause) = Some (places.Cause cause)
 named_place (faults.Setup refusal) = option_map (place_in_setup refusal.fault) refusal.place
 named_place (faults.Size length) = Some (places.Length length)
 named_place fault = None
 
--- the set-up, of which a fault is unless memory was refused
+-- The file of a fault of the set-up: the set-up, unless memory was refused.
 abbrev pub setup_role : SetupFault → Option TaskFile
 setup_role of_setup.Memory = None
 setup_role fault = Some files.Setup
 
--- the file that a fault is of, if it is of one
+-- The file in which a fault occurred, if it was a file.
 abbrev pub role_of : TaskFault → Option TaskFile
 role_of (faults.Unopened file cause) = Some file
 role_of (faults.Unreadable file) = Some file

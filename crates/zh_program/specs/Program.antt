@@ -1,4 +1,4 @@
--- What the program says of a task.
+-- What the program reports about a task.
 use Rattle.std.specs.Prelude.{◌≡◌, ◌≢◌, ℕ, List, Option, None, MatchOption, Result, Err, option_map}
 use Rattle.zh_arguments.specs.declared.arguments.Task.{Task}
 use Rattle.zh_arguments.specs.declared.arguments.Task.TheVariants.{Format}
@@ -14,27 +14,28 @@ use Rattle.zh_program.specs.declared.fault.TaskFault.TheVariants as faults
 use Rattle.zh_program.specs.Paths.{fault_path}
 use Rattle.zh_program.specs.Reports.{report_text}
 
--- how a task ended
+-- The end of a task: its result and what it hands over.
 abbrev pub ends : {D : Type 0} → Result (Unit {0}) TaskFault → Option D → Ended (Result (Unit {0}) TaskFault) D
 ends result used = record { result = result; used = used }
 
--- the path of the disk of a task, if it is given one
+-- The path of a task's disk, if it has one.
 abbrev pub disk_path : Task → Option (List ℕ)
 disk_path task = option_map (λ paths. paths.disk.now) (paths_of task)
 
--- what a stop may leave of the file of a disk that had these bytes, where a task opened none: them, or what a formatting makes of an
--- empty one
+-- What a stop may leave of the disk's file, which had these bytes, if the task opened no disk: those bytes or, for a formatting
+-- of an empty file, at most as many bytes as a disk has.
 abbrev pub IsLeftBy : Task → List ℕ → List ℕ → Type 0
 IsLeftBy (Format paths) = IsFilling
 IsLeftBy task = IsAsFound
 
--- At no moment until the end may a stop leave anything else of a file than before, but this of the one at the path of the disk.
+-- Until the end, a stop can leave nothing new of any file, except of the one at the path of the task's disk: there, only what
+-- `IsLeftBy` allows.
 abbrev pub LeavesAsFound : Task → (List ℕ → Option (List ℕ)) → (List ℕ → Type 0) → (List ℕ → Type 0) → Type 0
 LeavesAsFound task disk_at old new =
     MatchOption (disk_path task) (LeavesNoMore old new) (λ path. LeavesOf (IsLeftBy task) (disk_at path) old new)
 
--- A task met a fault, and then that is reported to standard error, whole or broken off as the world's remark says. Where it
--- was refused nothing is reported: the task has said why.
+-- A task met a fault. It is reported to standard error, whole or broken off, as the world's remark says. `Refused` is not
+-- reported, because the task has already said why.
 pub record MetFault (of : Known) (task : Task) (old new : WorldOf of) (used : Option (UsedOf of)) : Type 0 where
   pub fault : TaskFault
   pub after : WorldOf of
@@ -45,7 +46,7 @@ pub record MetFault (of : Known) (task : Task) (old new : WorldOf of) (used : Op
   pub refused : fault ≡ faults.Refused → new ≡ after
 
 module _ {I O E F D : Type 0} where
-  -- no file was read or opened, nothing was read from the input or written, and no disk is handed over
+  -- No file was opened or read, nothing was read from the input or written to the output, and no disk is handed over.
   pub record NothingDone (old new : World I O E F) (used : Option D) : Type 0 where
     pub rest : new ≡ record old { faults = new.faults; remark = new.remark }
     pub none : used ≡ None

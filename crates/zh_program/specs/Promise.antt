@@ -19,25 +19,27 @@ use Rattle.zh_program.specs.Headline.{Headline}
 use Rattle.zh_program.specs.Order.{AnswersBeforeReading, Throughout}
 use Rattle.zh_program.specs.Stopped.{MakesEmpty}
 
--- What the program has done when it ends and hands over, that is returns, this disk and the film of its task. A stopped run
--- did a front of one.
+-- What the program has done when it ends, that is returns, and hands over this disk and the film of its task. A run that is
+-- stopped did a prefix of it.
 pub record Promise (of : Known) (arguments : List (List ℕ)) (old new : WorldOf of) (status : ℕ)
     (used : FilmedOf of) : Type 0 where
   pub task : Task
   pub path : List ℕ
-  -- this path is given after `--disk`; `done` and `fault` say which view or which seats were asked for, and that nothing was
-  -- refused
+  -- This path is given after `--disk`. The clauses `done` and `fault` say which view or which seats were asked for, and that
+  -- nothing was refused.
   pub asked : IsSomeAnd (command_in arguments) (λ given. AsksOnDisk given task × (path ≡ path_in (codes "disk") given.1))
   pub exchanges : List Exchange
   pub opened : Trail
   pub due : AreOfTask (of.files.text_at old.files) task (talk_of of task old new opened used) status exchanges
-  -- the input is read only when all lines that are complete in what was read before are answered
+  -- The input is read only after all complete lines that were read before are answered.
   pub awaited : Throughout (AnswersBeforeReading exchanges) (talk_of of task old new opened used)
-  -- if the disk was honest, and the bytes of its file, where these are known, held a count: the clean image of one within the limits
+  -- If the disk was honest, and the bytes of its file are known and hold a count (a clean image of one within the limits), the
+  -- headline applies.
   pub on_a_count : IsTrue (of.disks.history used.disk).honest → (bytes : List ℕ) → of.files.disk_at old.files path ≡ Some bytes
       → (tally : Tally) → IsCanton tally.canton → Holds tally bytes
       → Headline tally (fresh_trail bytes) (talk_of of task old new opened used) exchanges
-  -- if it was honest, and they held no such count, not even in an image that isn't clean: no answer; of such an image nothing is said
+  -- If the disk was honest and the bytes hold no such count, clean or not, there is no answer. This says nothing about a count
+  -- in an image that is not clean.
   pub idle : IsTrue (of.disks.history used.disk).honest → (bytes : List ℕ) → of.files.disk_at old.files path ≡ Some bytes
       → ((tally : Tally) → IsCanton tally.canton → ¬ HoldsFramed tally bytes) → exchanges ≡ []
   pub formatted : (paths : Paths) → task ≡ Format paths → IsTrue (of.disks.history used.disk).honest

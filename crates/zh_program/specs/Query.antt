@@ -1,4 +1,4 @@
--- What a query shows of what is held.
+-- Answering a query from a count.
 use Rattle.std.specs.Prelude.{◌≡◌, Result, false, true}
 use Rattle.zh_arguments.specs.declared.commands.Query.{Query}
 use Rattle.zh_arguments.specs.declared.commands.Query.TheVariants.{Export, Status, Votes, Seats}
@@ -18,8 +18,8 @@ use Rattle.zh_program.specs.declared.fault.TaskFault.{TaskFault}
 use Rattle.zh_program.specs.declared.shown.Shown.{Shown}
 use Rattle.zh_program.specs.declared.shown.Shown.TheVariants.{Text, Advised}
 
--- What may be shown of a count: its export; this view of it, and what is said beside it; its votes so far; or its seats, or why
--- there are none.
+-- What a query may show of a count: its export; a view of it, with a remark; its votes so far; its seats, or why there are
+-- none.
 abbrev pub MayShow : Query → Tally → Shown → Type 0
 MayShow Export tally (Text text) = text.items ≡ export_text tally
 MayShow (Status view) tally (Advised text advice) = IsStatusText tally view text.items × IsSaidOf tally view advice.items
@@ -29,6 +29,6 @@ MayShow (Seats is_final layout) tally shown =
     (seats : Result MarkedSheet NoSeats) × AreSeatsOf tally is_final seats × AreShownSeats tally.canton layout seats shown
 MayShow query tally shown = ⊥
 
--- what this query asks of what the office on a disk holds is shown
+-- The answer to this query is shown, from the count of the office on a disk.
 abbrev pub ShowsHeld : (of : Known) → Query → Canton → WorldOf of × of.Disk → WorldOf of × of.Disk → Result (Unit {0}) TaskFault → Type 0
 ShowsHeld of query = MakesReading of (λ tally. Shows of (MayShow query tally))

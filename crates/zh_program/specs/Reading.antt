@@ -1,4 +1,4 @@
--- What a task leaves that reads what is held.
+-- What a task leaves that only reads a count.
 use Rattle.std.specs.Prelude.{◌≡◌, Result}
 use Rattle.zh_districts.specs.Canton.{Canton}
 use Rattle.zh_ledger.specs.Submissions.{OnDisk}
@@ -8,8 +8,8 @@ use Rattle.zh_program.specs.Opened.{LeavesDisk, WithOffice}
 use Rattle.zh_program.specs.World.{Known, WorldOf}
 use Rattle.zh_program.specs.declared.fault.TaskFault.{TaskFault}
 
--- An office was opened on a disk, and this was done with its count; or none was, and then nothing was done. No more was done to
--- the disk, and nothing else that stands anywhere is touched.
+-- An office was opened on a disk and this was done with its count; or opening it failed and nothing was done. Nothing else was
+-- done to the disk, and no file is touched.
 pub record MakesReading (of : Known) (Reads : Tally → WorldOf of → WorldOf of → Result (Unit {0}) TaskFault → Type 0)
     (canton : Canton) (before after : WorldOf of × of.Disk) (result : Result (Unit {0}) TaskFault) : Type 0 where
   pub read : WithOffice canton (of.disks.history before.1) (of.disks.history after.1) (after.0 ≡ before.0)

@@ -1,4 +1,4 @@
--- What a rehearsal does.
+-- A rehearsal.
 use Rattle.std.specs.Prelude.{◌≡◌, ◌^◌, ℕ, false, List, Some, Result, Err, IsTrue, codes, ◌++◌, ◌∷◌, []}
 use Rattle.zh_setups.specs.Rehearsal.{rehearsal}
 use Rattle.zh_returns.specs.Tally.{empty}
@@ -19,32 +19,32 @@ use Rattle.zh_program.specs.declared.on_disk.Used.TheVariants.{Rehearsal}
 use Rattle.zh_program.specs.declared.fault.TaskFault.{TaskFault}
 use Rattle.zh_program.specs.declared.fault.TaskFault.TheVariants as faults
 
--- the line that says of a rehearsal that nothing is kept, with its LF, which is 10
+-- The line that says that a rehearsal keeps nothing, with its LF, which is 10.
 abbrev pub announcement : List ℕ
 announcement = codes "zhcount: rehearsal, nothing is kept" ++ 10 ∷ []
 
--- the office of a rehearsal: as it begins nothing was returned yet, and its disk is honest to the end
+-- The office of a rehearsal: at the start its count is empty, and its disk is honest to the end.
 pub record IsRehearsal (start end : OnDisk Office) : Type 0 where
   pub count : start.holder.ledger.tally ≡ empty rehearsal
   pub held : start.holder.held ≡ no_batches
   pub whole : start.holder.ledger.store.broken ≡ false
   pub honest : IsTrue end.history.honest
 
--- A rehearsal served; or memory was refused for its set-up, its disk or its office, and nothing was served. Its disk is in memory, and
--- new: it is not in use, not damaged and not of another set-up, and fails only where memory is refused.
+-- A rehearsal was served; or memory was refused for its set-up, its disk or its office, and nothing was served. Its disk is new
+-- and in memory: it is not in use or damaged, it has no other set-up, and it fails only if memory is refused.
 abbrev pub Rehearsed : Type 0 → Streams → Streams → Result (Unit {0}) TaskFault → Type 0
 Rehearsed nothing old new (Err faults.Memory) = nothing
 Rehearsed nothing old new result = Serves old new IsRehearsal result
 
--- what is known of a disk in memory
+-- What is known of a disk in memory.
 abbrev pub in_memory : Disks MemoryDisk
 in_memory = record { history = memory_history; leaves = λ d. IsImage (memory_trail d).now }
 
--- what the film of a rehearsal shows, the latest first
+-- What the film of a rehearsal shows, latest first.
 abbrev pub rehearsal_shown : (of : Known) → Film of.Input of.Output MemoryDisk → List Frame
 rehearsal_shown of film = frames of.readers of.writers in_memory film
 
--- a rehearsal, which says so first; its disk is in memory, its film is handed over, and no file is touched
+-- A rehearsal: it is announced first, its disk is in memory, its film is handed over, and no file is touched.
 pub record Rehearses (of : Known) (old new : WorldOf of)
     (ended : EndOf of) : Type 0 where
   pub film : Film of.Input of.Output MemoryDisk

@@ -1,4 +1,4 @@
--- What is reported of a fault, in bytes: 10 is LF, 32 the space.
+-- The report of a fault, in bytes: 10 is LF, 32 the space.
 use Rattle.std.specs.Prelude.{ℕ, List, [], ◌∷◌, ◌++◌, Option, Some, None, codes, decimal}
 use Rattle.zh_csv.specs.Faults.{held_name}
 use Rattle.zh_verdicts.specs.Reports.{setup_place}
@@ -20,7 +20,7 @@ use Rattle.zh_program.specs.Paths.{shown_path}
 use Rattle.zh_program.specs.declared.place.TaskPlace.{TaskPlace}
 use Rattle.zh_program.specs.declared.place.TaskPlace.TheVariants as places
 
--- of a file that was not opened, or not read
+-- The name of the fault of a file that was not opened or not read.
 abbrev pub file_name : TaskFile → List ℕ
 file_name files.Setup = codes "setup file"
 file_name files.Disk = codes "disk device"
@@ -28,7 +28,7 @@ file_name files.Csv = codes "csv file"
 file_name files.Sheet = codes "sheet file"
 file_name files.Held = codes "held file"
 
--- the name of a fault
+-- The name of a fault.
 abbrev pub fault_text : TaskFault → List ℕ
 fault_text (faults.Unopened file cause) = file_name file
 fault_text (faults.Unreadable file) = file_name file
@@ -46,7 +46,7 @@ fault_text faults.Write = codes "write"
 fault_text faults.Faulted = file_name files.Disk
 fault_text faults.Refused = codes "refused"
 
--- the limits of the value at a place of a set-up
+-- The limits of the value at a place in a set-up, as text.
 abbrev pub limits_text : FaultPlace → List ℕ
 limits_text (of_text.Top keys.Version) = codes ": 1 or 2"
 limits_text (of_text.Top keys.House) = codes ": 1 to 400"
@@ -60,20 +60,21 @@ limits_text (of_text.Table kind number keys.Constituency) = codes ": the number 
 limits_text (of_text.Table kind number keys.Stands) = codes ": numbers of constituencies"
 limits_text place = []
 
--- a place or a cause: why a file was not opened, a place in a set-up text, or how long a file is that is no disk
+-- A place or a cause: why a file was not opened, a place in a set-up, or the length of a disk's file that is not that of a
+-- disk.
 abbrev pub place_text : TaskPlace → List ℕ
 place_text (places.Cause cause) = cause_name cause
 place_text (places.Setup place) = setup_place place
 place_text (places.Range place) = setup_place place ++ limits_text place
 place_text (places.Length found) = decimal found ++ codes " bytes instead of " ++ decimal disk_length
 
--- the second line: the path of the file, and the place in it or the cause, as far as they are known
+-- The second line: the path of the file, and the place in it or the cause, as far as known.
 abbrev pub second_line : Option (List ℕ) → Option TaskPlace → List ℕ
 second_line None None = []
 second_line None (Some place) = place_text place ++ 10 ∷ []
 second_line (Some path) None = shown_path path ++ 10 ∷ []
 second_line (Some path) (Some place) = shown_path path ++ codes ": " ++ place_text place ++ 10 ∷ []
 
--- the report of a fault of the file at this path, if it is of one: a line with its name, and then the second
+-- The report of a fault: a line with its name, then the second line. The path is that of the file in which it occurred, if any.
 abbrev pub report_text : Option (List ℕ) → TaskFault → List ℕ
 report_text path fault = (codes "zhcount: " ++ fault_text fault ++ 10 ∷ []) ++ second_line path (named_place fault)

@@ -1,4 +1,4 @@
--- The seats by a count or by a published sheet, or why there are none.
+-- The seats of a count or of a published sheet, or why there are none.
 use Rattle.std.specs.Prelude.{ℕ, Option, Some, None, Result, Ok, Err, List}
 use Rattle.zh_districts.specs.Canton.{Canton}
 use Rattle.zh_totals.specs.Totals.{VoteTotals}
@@ -19,7 +19,7 @@ use Rattle.zh_sheet_text.specs.declared.mark.MarkedSheet.{MarkedSheet}
 use Rattle.zh_sheet_text.specs.declared.mark.NoSeats.{NoSeats}
 use Rattle.zh_sheet_text.specs.declared.mark.NoSeats.TheVariants.{Refused, Exhausted, Tied, Wrong}
 
--- why there are no seats, and what there is instead, as the line of a sheet is answered
+-- The answer to the line of a sheet, if there are no seats for this reason.
 abbrev pub refusal_answer : NoSeats → Answer
 refusal_answer (Refused refusal) = answers.Reply (replies.Refused refusal)
 refusal_answer (Exhausted reason) = answers.Reply (replies.Refused (refusals.Sheet sheets.Exhausted))
@@ -30,25 +30,25 @@ abbrev pub answer_of : Result MarkedSheet NoSeats → Answer
 answer_of (Ok seats) = answers.Sheet seats.sheet seats.mark.is_final
 answer_of (Err why) = refusal_answer why
 
--- the refusal for a fault, with what the lot decides, if it does
+-- The reason for a fault, with the seats that the lot decides, if given.
 abbrev pub told : SheetFault → Option Lot → NoSeats
 told faults.Memory lot = Refused refusals.Memory
 told (faults.Refused refusal) (Some lot) = Tied refusal lot
 told (faults.Refused refusal) None = Refused (refusals.Sheet refusal)
 
--- a refusal that says all: neither of an exhausted search nor of tied seats
+-- A refusal that needs no further reason: neither an exhausted search nor a tie.
 abbrev pub SaysAll : SheetRefusal → Type 0
 SaysAll sheets.Exhausted = ⊥
 SaysAll refusal = ¬ IsForTheLot refusal
 
--- an exhausted search has a reason, and tied seats what the lot decides, and it is this one
+-- An exhausted search has this reason, and tied seats have this lot. Any other refusal of the seats needs no reason.
 abbrev pub IsReasonFor : VoteTotals → NoSeats → Type 0
 IsReasonFor totals (Exhausted reason) = IsReason totals reason
 IsReasonFor totals (Tied refusal lot) = IsLotOf totals refusal lot
 IsReasonFor totals (Refused (refusals.Sheet refusal)) = SaysAll refusal
 IsReasonFor totals why = Unit {0}
 
--- the bytes are a right sheet of this set-up in no way; or memory was refused
+-- The bytes are not a right sheet of this set-up, whatever they are read as; or memory was refused.
 abbrev pub IsNoSheetOf : Canton → List ℕ → NoSeats → Type 0
 IsNoSheetOf canton bytes Wrong = (c : RightSheet) → ¬ IsRight canton None bytes c
 IsNoSheetOf canton bytes (Refused refusals.Memory) = Unit {0}

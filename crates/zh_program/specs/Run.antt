@@ -1,4 +1,4 @@
--- What a run does.
+-- A run.
 use Rattle.std.specs.Prelude.{◌≡◌, ◌^◌, ℕ, Bool, true, false, List, [], Option, Result, Ok, Err}
 use Rattle.zh_districts.specs.Canton.{Canton}
 use Rattle.zh_film.specs.Frames.{Frame, frames}
@@ -12,7 +12,7 @@ use Rattle.zh_program.specs.Opened.{LeavesDisk, WithOffice}
 use Rattle.zh_program.specs.declared.fault.TaskFault.{TaskFault}
 use Rattle.zh_program.specs.declared.fault.TaskFault.TheVariants as faults
 
--- what the input has left, and what is written of the answers, where that is known; and what a film shows
+-- The bytes left in the input and the answers written, if known, and what a film shows.
 pub record Streams : Type 0 where
   pub left : Option (List ℕ)
   pub written : Option (List ℕ)
@@ -21,23 +21,23 @@ pub record Streams : Type 0 where
 abbrev pub streams : Option (List ℕ) → Option (List ℕ) → List Frame → Streams
 streams left written film = record { left = left; written = written; film = film }
 
--- an office beside them
+-- The streams together with an office.
 abbrev pub beside : Streams → OnDisk Office → Session
 beside s office = record { written = s.written; office = office; left = s.left; film = s.film }
 
--- all lines of the input were answered, and the device failed under it or not
+-- All lines of the input were answered. `faulted` says whether the device failed meanwhile.
 abbrev pub ServesWhole : Bool → Session → Session → Type 0
 ServesWhole faulted old new = (count : ℕ) × ServesAll old new count × (new.office.holder.ledger.store.broken ≡ faulted)
 
--- an office that began so served the input like this
+-- An office, from `start` to `end`, served the input in this way.
 pub record Served (old new : Streams) (Spans : OnDisk Office → OnDisk Office → Type 0) (Serving : Session → Session → Type 0) : Type 0 where
   pub start : OnDisk Office
   pub end : OnDisk Office
   pub spans : Spans start end
   pub serving : Serving (beside old start) (beside new end)
 
--- What serving with this result has done: all lines were answered; or the input was not read to its end, and the lines that were
--- ended are answered; or the writer failed, and a front of the answers is written.
+-- What serving with this result has done: all lines were answered; or the input was not read to its end, and its complete lines
+-- are answered; or a write failed, and a prefix of the answers is written.
 abbrev pub Serves : Streams → Streams → (OnDisk Office → OnDisk Office → Type 0) → Result (Unit {0}) TaskFault → Type 0
 Serves old new Spans (Ok done) = Served old new Spans (ServesWhole false)
 Serves old new Spans (Err faults.Faulted) = Served old new Spans (ServesWhole true)
@@ -46,23 +46,23 @@ Serves old new Spans (Err (faults.Serve serving.Turns)) = Served old new Spans S
 Serves old new Spans (Err (faults.Serve serving.Write)) = Served old new Spans ServesFront
 Serves old new Spans (Err fault) = ⊥
 
--- a run makes this many reads of its input at most, which its film shows, and ends with `turns` only once it has made as many
+-- A run makes at most `limit` reads of its input, which its film shows. It ends with `turns` only after all of them.
 abbrev pub IsReadWithin : List Frame → Option (List ℕ) → Option (List ℕ) → ℕ → Result (Unit {0}) TaskFault → Type 0
 IsReadWithin film left left' limit (Err (faults.Open fault)) = Unit {0}
 IsReadWithin film left left' limit (Err (faults.Serve serving.Write)) = MakesReadsUpTo film left left' limit
 IsReadWithin film left left' limit (Err (faults.Serve serving.Turns)) = MakesAllReads film left left' limit
 IsReadWithin film left left' limit result = EndsWithinReads film left left' limit
 
--- where it ends with `turns` it has made this many reads, each of which took some
+-- If it ends with `turns`, it has made `limit` reads, each of which took at least one byte.
 abbrev pub UsesUpReads : List Frame → Option (List ℕ) → Option (List ℕ) → ℕ → Result (Unit {0}) TaskFault → Type 0
 UsesUpReads film left left' limit (Err (faults.Serve serving.Turns)) = MakesAllReads film left left' limit
 UsesUpReads film left left' limit result = Unit {0}
 
--- the streams of a world
+-- The streams of a world.
 abbrev pub streams_of : (of : Known) → WorldOf of → List Frame → Streams
 streams_of of world film = streams (of.readers.remaining world.input) (of.writers.contents world.output) film
 
--- a run on a disk, and its film: the lines of the input are served by the office that stands there, and nothing else is touched
+-- A run on a disk, and its film: the office on the disk serves the lines of the input, and nothing else changes.
 pub record Ran (of : Known) (canton : Canton) (before : WorldOf of × of.Disk) (after : WorldOf of × FilmedOf of)
     (result : Result (Unit {0}) TaskFault) : Type 0 where
   pub rest : after.0 ≡ record before.0 { input = after.0.input; output = after.0.output }

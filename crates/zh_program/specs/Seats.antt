@@ -1,4 +1,4 @@
--- What is shown of the seats.
+-- The seats as text.
 use Rattle.std.specs.Prelude.{◌≡◌, ℕ, Bool, if◌then◌else◌, List, Result, Ok, Err, IfOk, IfErr}
 use Rattle.zh_arguments.specs.declared.seats.Layout.{Layout}
 use Rattle.zh_arguments.specs.declared.seats.SeatsOf.{SeatsOf}
@@ -19,7 +19,7 @@ use Rattle.zh_sheet_text.specs.declared.mark.NoSeats.{NoSeats}
 use Rattle.zh_program.specs.declared.shown.Shown.{Shown}
 use Rattle.zh_program.specs.declared.shown.Shown.TheVariants.{Text, Nothing}
 
--- the records of seats, and their table for people
+-- The records of the seats, then their table for people.
 abbrev pub seat_records : SeatsOf → MarkedSheet → List ℕ
 seat_records Lists seats = seats_text seats.sheet seats.mark
 seat_records Groups seats = groups_text seats.sheet seats.mark
@@ -30,23 +30,23 @@ seat_table Lists seats = table_text seats.sheet seats.mark
 seat_table Groups seats = group_table_text seats.sheet seats.mark
 seat_table Constituencies seats = constituency_table_text seats.sheet seats.mark
 
--- the text of seats in a form
+-- The text of the seats in this layout.
 abbrev pub laid_out : Layout → MarkedSheet → List ℕ
 laid_out layout seats = if layout.is_table then seat_table layout.of seats else seat_records layout.of seats
 
--- why there are none
+-- The reason why there are none.
 abbrev pub IsShownReason : Canton → NoSeats → Shown → Type 0
 IsShownReason canton why (Nothing text) = text.items ≡ refusal_text canton why
 IsShownReason canton why shown = ⊥
 
--- these seats, or why there are none
+-- These seats, or the reason why there are none.
 abbrev pub AreShownSeats : Canton → Layout → Result MarkedSheet NoSeats → Shown → Type 0
 AreShownSeats canton layout (Ok seats) (Text text) = text.items ≡ laid_out layout seats
 AreShownSeats canton layout (Err why) shown = IsShownReason canton why shown
 AreShownSeats canton layout seats shown = ⊥
 
--- the seats of a count, as its line `sheet` may be answered, or those that are final, as its line `final` may be; or why there
--- are none
+-- The seats of a count, as the line `sheet` may give them or, if `is_final`, the line `final`; or the reason why there are
+-- none.
 pub record AreSeatsOf (tally : Tally) (is_final : Bool) (seats : Result MarkedSheet NoSeats) : Type 0 where
   pub answer : MayAnswerSheet tally is_final (answer_of seats)
   pub mark : IfOk seats (λ shown. shown.mark ≡ record { is_final = is_final; accepted = tally.accepted; source = sources.Count })

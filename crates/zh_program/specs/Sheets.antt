@@ -9,14 +9,14 @@ use Rattle.zh_sheet.specs.declared.fault.SheetRefusal.TheVariants as sheets
 use Rattle.zh_office.specs.declared.answer.Answer.{Answer}
 use Rattle.zh_office.specs.declared.answer.Answer.TheVariants.{Reply}
 
--- The distribution of the seats by these totals: each part follows from those before it, all totals are met, and each
--- quotient rounds without a half to its seats under the divisors that the sheet carries. So no divisors lead to other seats:
--- `headline_excludes` says that of every sheet.
+-- The distribution of the seats by these totals: each part follows from those before it, all totals are met, and each quotient
+-- rounds to its seats under the divisors on the sheet without lying on a signpost. So no divisors lead to different seats:
+-- `headline_excludes` proves that for every sheet.
 pub record FollowsFrom (totals : VoteTotals) (sheet : Distribution) : Type 0 where
   pub votes : sheet.totals ≡ totals
   pub meets : IsDistribution sheet
 
--- the answer reports a tie: of the constituencies' seats, of the groups', or of the lists'
+-- The answer reports a tie: among constituencies' seats, groups' seats, or lists' seats.
 abbrev pub IsTie : Answer → Type 0
 IsTie (Reply (Refused (refusals.Sheet sheets.TiedSeats))) = Unit {0}
 IsTie (Reply (Refused (refusals.Sheet (sheets.NoUpperSeats uppers.Tied)))) = Unit {0}

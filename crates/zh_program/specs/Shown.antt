@@ -1,4 +1,4 @@
--- What a task shows, and what its writing leaves of a world.
+-- What a task shows, and how a world changes when it is written.
 use Rattle.std.specs.Prelude.{◌≡◌, Result, Ok, Err, MatchResult}
 use Rattle.std.specs.Io.KnownBytes.{Appends}
 use Rattle.zh_file.specs.declared.world.World.{World}
@@ -10,17 +10,17 @@ use Rattle.zh_program.specs.declared.fault.TaskFault.TheVariants as faults
 use Rattle.zh_program.specs.declared.shown.Shown.{Shown}
 use Rattle.zh_program.specs.declared.shown.Shown.TheVariants.{Text, Advised, Nothing}
 
--- something that may be shown is given, or memory was refused
+-- What may be shown is given, or memory was refused.
 abbrev pub GivesShown : (Shown → Type 0) → Result Shown TaskFault → Type 0
 GivesShown May result = MatchResult result May (λ fault. fault ≡ faults.Memory)
 
 module _ {I O E F : Type 0} where
-  -- no more of a world changed than its output, its standard error and its remark
+  -- Only the output, standard error and the remark of the world changed.
   abbrev pub OnlyWrites : World I O E F → World I O E F → Type 0
   OnlyWrites old new = new ≡ record old { output = new.output; faults = new.faults; remark = new.remark }
 
--- What the writing of it with this result has done: a text is written, and what is said beside it is the remark; or a part
--- of the text is written, and nothing more; or there is none, and the remark says why.
+-- What writing it with this result has done: the text is written, and an advice becomes the remark; or only a part of the text
+-- is written and nothing else; or there is no text, and the remark says why.
 abbrev pub WritesShown : (of : Known) → WorldOf of → WorldOf of → Shown → Result (Unit {0}) TaskFault → Type 0
 WritesShown of old new (Text text) (Ok done) =
     Appends (of.writers.contents old.output) (of.writers.contents new.output) text.items × (new ≡ record old { output = new.output })
@@ -35,7 +35,7 @@ WritesShown of old new (Nothing why) (Err faults.Refused) =
     (new.output ≡ old.output) × BecameOf new.remark (of.errors.contents old.faults) (of.errors.contents new.faults) why.items
 WritesShown of old new shown result = ⊥
 
--- something that may be shown is written, and nothing else is; or memory was refused, and nothing is
+-- Something that may be shown is written and nothing else; or memory was refused and nothing is written.
 abbrev pub Shows : (of : Known) → (Shown → Type 0) → WorldOf of → WorldOf of → Result (Unit {0}) TaskFault → Type 0
 Shows of May old new (Err faults.Memory) = new ≡ old
 Shows of May old new result = (shown : Shown) × May shown × OnlyWrites old new × WritesShown of old new shown result

@@ -6,21 +6,21 @@ use Rattle.zh_returns.specs.Tally.{Tally, empty}
 use Rattle.zh_snapshot.specs.Image.{IsBlank}
 use Rattle.zh_ledger.specs.Stands.{Holds, HoldsFramed}
 
--- at each moment from that of the one trail to that of the other a stop leaves an image of this kind
+-- At each moment from the end of `old` to the end of `new`, every image that a stop leaves satisfies `IsLeft`.
 pub record Always (IsLeft : List ℕ → Type 0) (old new : Trail) : Type 0 where
   pub between : List Moment
   pub run : new.now ∷ new.past ≡ between ++ old.now ∷ old.past
   pub each : All (λ m. (c : List ℕ) → IsImage m c → IsLeft c) (between ++ old.now ∷ [])
 
--- An image opens to this count: it stands for it, and for no other one of its set-up. The law `reopenings` says of each opening
--- that there is then no cause to refuse it, memory and the device aside.
+-- An image opens to this count: it represents this count, and no other count of its set-up. The law `reopenings` says that no
+-- opening of it can then be refused, except for memory or by the device.
 pub record OpensTo (count : Tally) (c : List ℕ) : Type 0 where
   pub stands : HoldsFramed count c
   pub only : (other : Tally) → other.canton ≡ count.canton → HoldsFramed other c → other ≡ count
 
--- At each moment of a formatting a stop leaves what the disk began with or, if that was blank, a blank disk or the empty
--- count of a set-up; with status 0 it ends with this count. That the set-up is the one at `--setup` is said by `done`. The
--- disk began with the bytes of its file or, where these are none at all, as a new one, of zeros.
+-- At each moment of a formatting, a stop leaves the disk as it began or, if it was blank, a blank disk or the empty count of a
+-- set-up; with status 0 it ends with that count. The clause `done` says that the set-up is the one at `--setup`. The disk began
+-- with the bytes of its file or, if the file was empty, as a new disk of zeros.
 pub record MakesEmpty (bytes : List ℕ) (status : ℕ) (last : Trail) : Type 0 where
   pub first : List ℕ
   pub began : bytes ≢ [] → first ≡ bytes

@@ -1,4 +1,4 @@
--- What each task leaves of a world.
+-- What each task does to a world.
 use Rattle.std.specs.Prelude.{◌≡◌, None}
 use Rattle.zh_arguments.specs.declared.arguments.Task.{Task}
 use Rattle.zh_arguments.specs.declared.arguments.Task.TheVariants.{Rehearse, Format, Run, Load, Check}
@@ -12,7 +12,7 @@ use Rattle.zh_program.specs.Version.{WritesVersion}
 use Rattle.zh_program.specs.World.{EndOf, Known, WorldOf}
 use Rattle.zh_program.specs.declared.on_disk.Work.TheVariants as works
 
--- what a task that ended so has done, from a world to a world
+-- What a task with this end has done, from a world to a world.
 abbrev pub Does : (of : Known) → Task → WorldOf of → WorldOf of → EndOf of → Type 0
 Does of Rehearse old new ended = Rehearses of old new ended
 Does of (Format paths) old new ended = UsesDisk of works.Format paths old new ended

@@ -20,7 +20,7 @@ use Rattle.zh_program.specs.declared.on_disk.Filmed.{Filmed}
 use Rattle.zh_program.specs.declared.on_disk.Used.{Used}
 use Rattle.zh_file.specs.declared.files.Files.{Ghosts as Files}
 
--- what is known of the world of a task: the types of its parts, and of each what is known
+-- What is known of a task's world: the types of its parts, and what is known of each.
 pub record Known : Type 1 where
   pub Input : Type 0
   pub Output : Type 0
@@ -52,33 +52,33 @@ module _ {I O E F T D R : Type 0} where
     disks = disks;
   }
 
--- a world of these parts
+-- A world of these parts.
 abbrev pub WorldOf : Known → Type 0
 WorldOf of = World of.Input of.Output of.Errors of.Folder
 
--- a disk that a task in it has used, with what is to be seen of the task, and what the task hands over
+-- A disk that a task used with what is noted of the task; and what a task hands over.
 abbrev pub FilmedOf : Known → Type 0
 FilmedOf of = Filmed of.Input of.Output of.Disk of.Text
 
 abbrev pub UsedOf : Known → Type 0
 UsedOf of = Used of.Input of.Output of.Disk of.Text
 
--- how a task ended, and what it hands over
+-- The result of a task, and what it hands over.
 abbrev pub EndOf : Known → Type 0
 EndOf of = Ended (Result (Unit {0}) TaskFault) (UsedOf of)
 
--- how a disk begins that is opened where these bytes are: to be formatted one is made, where there is none
+-- How a disk with these bytes begins when it is opened. For a formatting, a missing file is created.
 abbrev pub BeginsAt : Work → Option (List ℕ) → History → Type 0
 BeginsAt Format = BeginsOrIsMade
 BeginsAt work = Begins
 
--- and what a stop may leave there of one that is not
+-- What a stop may leave of the file at the path of a disk, if no disk was opened.
 abbrev pub LeftAt : Work → List ℕ → List ℕ → Type 0
 LeftAt Format = IsFilling
 LeftAt work = IsAsFound
 
 module _ {F T D R : Type 0} where
-  -- so many calls were made of the files, of which the same is known, and nothing that stands anywhere was touched
+  -- This many calls were made of the files. What is known of the files stays the same, and nothing at any path was touched.
   pub record AreCalls (files : Files F T D R) (count : ℕ) (old new : F) : Type 0 where
     pub counted : files.calls new ≡ files.calls old + count
     pub texts : files.text_at new ≡ files.text_at old
@@ -87,25 +87,25 @@ module _ {F T D R : Type 0} where
     pub leaves : LeavesNoMore (files.left old) (files.left new)
     pub goes : ForgetsNone (files.failed old) (files.failed new)
 
-  -- The last call met this fault, which is right about what stood at this path before, and is that of a call of the system at this
-  -- path that failed.
+  -- The last call met this fault. The fault is right about what was at this path before, and it comes from a failed system call
+  -- at this path.
   abbrev pub IsMetAt : Files F T D R → List ℕ → F → F → FileFault → Type 0
   IsMetAt files path old new fault = (files.fault new ≡ Some fault) × IsFaultIn (files.places old) path fault
       × IsMet path fault (files.failed old) (files.failed new)
 
-  -- a text was read, and then the disk at this path opened or asked for
+  -- A text was read, and then the disk at this path was opened or asked for.
   pub record AsksForDisk (files : Files F T D R) (path : List ℕ) (old new : F) : Type 0 where
     pub counted : files.calls new ≡ files.calls old + 2
     pub texts : files.text_at new ≡ files.text_at old
     pub disks : files.disk_at new ≡ files.disk_at old
     pub touches : Touches (Some path) (files.places old) (files.places new)
 
--- these are the first bytes of a text, where that is known
+-- These are the first 1,048,577 bytes of a text, if its bytes are known.
 abbrev pub IsFrontAt : Option (List ℕ) → List ℕ → Type 0
 IsFrontAt None front = Unit {0}
 IsFrontAt (Some text) front = front ≡ take 1048577 text
 
--- this set-up is within its limits, and the reading of the text where that is known
+-- This set-up is within its limits and is what the text reads as, if its bytes are known.
 abbrev pub IsSetupAt : Option (List ℕ) → Canton → Type 0
 IsSetupAt None canton = IsCanton canton
 IsSetupAt (Some text) canton = IsCanton canton × (reading_of text ≡ Ok canton)

@@ -18,7 +18,7 @@ use zh_file::{Files, World};
 use zh_text::put;
 use zh_verdicts::spelled_verdict;
 
-/// The fault of an export, as the task's.
+/// Turns the fault of an export into the fault of the task.
 fn held_fault(fault: LoadFault) -> TaskFault
     ensures { HeldFaultAs fault result }
 {
@@ -29,7 +29,7 @@ fn held_fault(fault: LoadFault) -> TaskFault
     }
 }
 
-/// The sums of the export at this path.
+/// Reads the export at a path and returns its sums.
 fn held_at<'s, F: Files>(
     alloc: Global,
     files: &mut F,
@@ -48,7 +48,7 @@ fn held_at<'s, F: Files>(
     }
 }
 
-/// The sums of the export, where there is one.
+/// Reads the export and returns its sums, if a path is given.
 fn held_if_named<'s, F: Files>(
     alloc: Global,
     files: &mut F,
@@ -66,7 +66,7 @@ fn held_if_named<'s, F: Files>(
     }
 }
 
-/// Checks a sheet, and writes the verdict on it.
+/// Checks a sheet and writes the verdict on it. The fault is `Refused` if the sheet is not right.
 fn answer<O: Write>(
     alloc: Global,
     setup: &Setup,
@@ -86,7 +86,7 @@ fn answer<O: Write>(
     }
 }
 
-/// Checks the sheet at a path: reads the files, and then checks and answers.
+/// Checks the sheet at a path: reads all files first, then checks and answers.
 pub(crate) fn check_files<I: Read, O: Write, E: Write, F: Files>(
     alloc: Global,
     paths: CheckPaths<'_>,

@@ -1,4 +1,4 @@
-//! The program, and each of its tasks.
+//! The program, from its arguments to the status, and the dispatch to its tasks.
 
 ghost use Rattle.std.specs.Prelude.{◌≡◌, ◌≢◌, ◌≤◌, ◌⊎◌, [], Err, IfErr, MatchResult, None, Ok, Some, map};
 ghost use Rattle.std.specs.String.{string_bytes};
@@ -34,7 +34,8 @@ use std::io::{Read, Write};
 use zh_arguments::{Task, read_arguments};
 use zh_file::{Ended, Files, Remark, World};
 
-/// The status of a task that ended so. A fault is reported, but where it was refused the task has said why.
+/// Returns the status of a task with this result: 0 if it was done, 1 after a fault. A fault is reported, except for `Refused`:
+/// then the task has already said why.
 fn end<I, O, E: Write, F>(
     ended: Result<(), TaskFault>,
     task: Task<'_>,
@@ -56,7 +57,7 @@ fn end<I, O, E: Write, F>(
     }
 }
 
-/// The status of arguments that are refused. The reason is reported.
+/// Returns the status of refused arguments and reports the reason: 1 if memory was refused, 2 otherwise.
 fn refuse<I, O, E: Write, F>(refusal: &Error, world: &mut World<I, O, E, F>) -> u8
     ensures memory { kind_of refusal.now ≡ ErrorKind.OutOfMemory → result ≡ 1 }
     ensures refused { kind_of refusal.now ≢ ErrorKind.OutOfMemory → result ≡ 2 }
@@ -76,12 +77,12 @@ fn refuse<I, O, E: Write, F>(refusal: &Error, world: &mut World<I, O, E, F>) -> 
 }
 
 /// The program on its arguments, without its name, in a world. It returns the status: 0 if the task was done; 1 after a
-/// fault, which is reported to `faults`; 2 if the arguments ask for no task, `--help` among them, with the reason on
-/// `faults`. The world's remark says whether that was written whole.
+/// fault, which is reported to `faults`; 2 if the arguments ask for no task (`--help` included), with the reason on `faults`.
+/// The world's remark says whether that text was written completely.
 ///
-/// The disk that it worked on is handed over, with the record of its calls and the film of its task, whatever the status.
+/// Whatever the status, a task that used a disk hands it over, with the record of its calls and the film of the task.
 ///
-/// Without arguments it is a rehearsal. docs/MANUAL.md has the others.
+/// Without arguments, it runs a rehearsal. docs/MANUAL.md describes the other tasks.
 pub fn program<I: Read, O: Write, E: Write, F: Files>(
     alloc: Global,
     arguments: &[String],
@@ -91,7 +92,7 @@ pub fn program<I: Read, O: Write, E: Write, F: Files>(
     ensures status { result.result ≤ 2 }
     ensures done { result.result ≡ 0 → (task : Task) × AsksFor (map string_bytes arguments.now) task
         × Does (known I.Read O.Write E.Write F.Files F.Disk.Disk) task world.old world.new (ends (Ok tt) result.used) }
-    // Memory may be refused before the arguments are read, and then that is reported, and nothing is done.
+    // If memory is refused before the task is known, that is reported and nothing is done.
     ensures fault { result.result ≡ 1 → (NothingDone world.old world.new result.used
         × BecameOf world.new.remark (E.contents world.old.faults) (E.contents world.new.faults) (report_text None TaskFault.Memory))
         ⊎ ((task : Task) × AsksFor (map string_bytes arguments.now) task
@@ -101,8 +102,9 @@ pub fn program<I: Read, O: Write, E: Write, F: Files>(
         world.old world.new result.result used }
     ensures rehearsed { (film : Film I O MemoryDisk) → result.used ≡ Some (used_as.Rehearsal film)
         → RehearsalPromise (known I.Read O.Write E.Write F.Files F.Disk.Disk) world.old world.new result.result film }
-    // No file is touched but the one at `--disk` and its companion, and of these only empty ones before the disk's own calls. Where
-    // no disk is handed over the file at `--disk` is as it was found, and a stop leaves it so at each moment.
+    // Apart from the disk's own calls, the only effects on files are these: an empty file can be created at `--disk`, and its
+    // companion, if empty, can be created or removed. If no disk is handed over, a stop at any moment leaves the file at
+    // `--disk` as it was found or, if a formatting found it empty, with at most as many bytes as a disk has.
     ensures touches { (world.new.files ≡ world.old.files) ⊎ ((task : Task) × AsksFor (map string_bytes arguments.now) task
         × Touches (disk_path task) (F.places world.old.files) (F.places world.new.files)
         × (result.used ≡ None → LeavesAsFound task (F.disk_at world.old.files) (F.left world.old.files) (F.left world.new.files))) }
@@ -123,9 +125,9 @@ pub fn program<I: Read, O: Write, E: Write, F: Files>(
     }
 }
 
-/// Carries out a task. The disk that it worked on is handed over with its film, whatever the result.
+/// Carries out a task. Whatever the result, a disk that the task used is handed over with its film.
 ///
-/// An error says why the task was not done. The program reports it (docs/MANUAL.md).
+/// The error says why the task was not done. The program reports it (docs/MANUAL.md).
 pub fn carry_out<I: Read, O: Write, E: Write, F: Files>(
     alloc: Global,
     task: Task<'_>,

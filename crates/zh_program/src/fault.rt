@@ -17,40 +17,40 @@ use zh_setups::{SetupFault, SetupRefusal};
 use zh_tables::ListFault;
 use zh_text::WriteFault;
 
-/// The fault of a task, in the order of the manual.
+/// Why a task was not done, in the order of docs/MANUAL.md.
 #[derive(Clone, Copy)]
 pub enum TaskFault {
-    /// A file could not be opened or made, and why.
+    /// A file could not be opened or created, with the cause.
     Unopened(TaskFile, FileCause),
-    /// A file could not be read; of the CSV file of a load its first bytes.
+    /// A file could not be read. For a CSV file this means the first read of a load, or any read of a dry run.
     Unreadable(TaskFile),
     Setup(SetupRefusal),
-    /// The disk could not be formatted.
+    /// The device failed while the disk was formatted.
     Device,
     /// Another program has the disk open.
     Busy,
-    /// The file of the disk has so many bytes, and not those of a disk.
+    /// The disk's file has this length in bytes, which is not that of a disk.
     Size(u64),
-    /// The disk that is to be formatted is not blank.
+    /// The disk to be formatted is not blank.
     InUse,
     /// No office could be opened on the disk.
     Open(OpenFault),
     /// A record of the export is refused.
     Held(HeldFault),
-    /// A table of the set-up is not made.
+    /// A table of the set-up could not be made.
     Table(ListFault),
     Memory,
     Serve(ServeFault),
-    /// What the task answers could not be written to its end.
+    /// The output of the task could not be written to its end.
     Write,
-    /// All is answered, and the device failed under it.
+    /// Everything was answered, but the device failed during the run or load.
     Faulted,
-    /// The answer, which is written, or a remark says why. Nothing else is reported.
+    /// The task refused: its output, or a remark on standard error, says why. Nothing else is reported.
     Refused,
 }
 
 impl TaskFault {
-    /// Where it was met, or why, as far as that is known.
+    /// Where the fault occurred, or its cause, as far as known.
     pub fn place(&self) -> Option<TaskPlace>
         ensures { result ≡ named_place self.now }
     {
@@ -65,7 +65,7 @@ impl TaskFault {
         }
     }
 
-    /// The file that it is a fault of, if it is of one.
+    /// The file in which the fault occurred, if it was a file.
     pub fn file(&self) -> Option<TaskFile>
         ensures { result ≡ role_of self.now }
     {

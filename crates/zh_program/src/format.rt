@@ -17,13 +17,13 @@ use zh_office::Office;
 use zh_snapshot::{OpenFault, Store};
 use zh_tables::{problems_line, setup_problems};
 
-/// Formats a disk that is blank.
+/// Formats a disk, if it is blank.
 pub(crate) fn format_blank<D: Disk>(
     alloc: Global,
     setup: &Setup,
     disk: &mut D,
 ) -> Result<(), TaskFault>
-    // It is opened, and formatted only where it is blank: specs/Format.antt has the moments.
+    // The disk is opened, and formatted only if it is blank. specs/Format.antt describes the moments.
     ensures call { Call format_fails (FormatsBlank setup.now) (D.history disk.old) (D.history disk.new) result }
     ensures fault { IfErr result IsOfFormat }
 {
@@ -35,7 +35,8 @@ pub(crate) fn format_blank<D: Disk>(
     }
 }
 
-/// Says how many problems there are, if there are any. Where that can't be written the disk is made all the same.
+/// Writes the number of problems that a set-up has to standard error, unless it is zero. If this can't be written, the disk is
+/// formatted all the same.
 fn say_problems<E: Write>(count: usize, line: &[u8], faults: &mut E, remark: &mut Remark)
     ensures { SaysIf (nat_lt 0 count) (BecameOf remark.new (E.contents faults.old) (E.contents faults.new) line.now)
         ((faults.new ≡ faults.old) × (remark.new ≡ remark.old)) }
@@ -46,7 +47,7 @@ fn say_problems<E: Write>(count: usize, line: &[u8], faults: &mut E, remark: &mu
     *remark = make_remark(line, faults);
 }
 
-/// Formats a disk that is blank, and says how many problems the set-up has.
+/// Formats a disk if it is blank and writes how many problems the set-up has.
 pub(crate) fn format_with<I: Read, O: Write, E: Write, F: Files>(
     alloc: Global,
     setup: &Setup,

@@ -1,4 +1,4 @@
-//! What the promise of the program comes to, and laws of the tasks.
+//! Consequences of the program's promise, and laws of its tasks.
 
 ghost use Rattle.std.specs.Prelude.{◌≡◌, ◌≢◌, ◌⊎◌, ◌+◌, ◌*◌, ◌<◌, ◌≤◌, ℕ, Bool, IsTrue, MatchResult, Result, List, [], ◌∷◌, ◌++◌, flat_map};
 ghost use Rattle.std.specs.Prelude.{length, map, slice_index, take, None, Some, ◌↔◌, Option};
@@ -48,62 +48,65 @@ use std::io::{Read, Write};
 use zh_file::{Files, World};
 use zh_sheet_text::no_longer;
 
-/// What the promise excludes, wherever a stop comes.
+/// Cases that the promise excludes, wherever a stop comes.
 pub fn headline_excludes()
     // An image without the last acknowledged command.
     ensures lost { (tally : Tally) (before : Trail) (talk : Conversation) (exchanges prior rest : List Exchange) (c : List ℕ) (n : ℕ)
         → Headline tally before talk exchanges → exchanges ≡ prior ++ rest → IsImage (disk_by talk.first.disk prior).now c
         → n < (log_of prior).acknowledged → n ≤ length (log_of prior).accepted → Holds (after tally (take n (log_of prior).accepted)) c
         → ⊥ }
-    // One that skips a command, has them in another order, or has one that was not accepted by then.
+    // An image whose count skips a command, applies commands in a different order, or includes one that was not accepted by
+    // then.
     ensures skipped { (tally count : Tally) (before : Trail) (talk : Conversation) (exchanges prior rest : List Exchange)
         (x : Exchange) (c : List ℕ) → Headline tally before talk exchanges → exchanges ≡ prior ++ x ∷ rest
         → StopsWithin (disk_by talk.first.disk prior) x.disk c
         → Holds count c → count.canton ≡ tally.canton
         → ((n : ℕ) → (log_of prior).acknowledged ≤ n → n ≤ length (log_of (prior ++ x ∷ [])).accepted
         → count ≢ after tally (take n (log_of (prior ++ x ∷ [])).accepted)) → ⊥ }
-    // An answer `stored` where there is no command.
+    // An answer `stored` to something that gives no command.
     ensures nothing_stored { (tally : Tally) (before : Trail) (talk : Conversation) (exchanges prior rest : List Exchange)
         (x : Exchange) (number : ℕ) → Headline tally before talk exchanges → exchanges ≡ prior ++ x ∷ rest
         → x.answer ≡ answers.Reply (replies.Stored number) → x.command ≡ None → ⊥ }
-    // An answer `same` to a command that is new to the count.
+    // An answer `same` to a command that the count before it would accept.
     ensures not_same { (tally : Tally) (before : Trail) (talk : Conversation) (exchanges prior rest : List Exchange)
         (x : Exchange) (command : Command) → Headline tally before talk exchanges → exchanges ≡ prior ++ x ∷ rest
         → x.answer ≡ answers.Reply replies.Same → x.command ≡ Some command
         → judge (count_by tally (log_of prior)) command ≡ verdicts.Accept → ⊥ }
-    // A sheet of another count than that at its line.
+    // A sheet of a different count from the one at its line.
     ensures other_count { (tally : Tally) (before : Trail) (talk : Conversation) (exchanges prior rest : List Exchange) (x : Exchange)
         (sheet : Distribution) (is_final : Bool) → Headline tally before talk exchanges → exchanges ≡ prior ++ x ∷ rest
         → x.answer ≡ answers.Sheet sheet is_final → sheet.totals ≢ totals_of (count_by tally (log_of (prior ++ x ∷ []))) → ⊥ }
-    // A sheet with the quotient of row d and column g on a half, k and a half.
+    // A sheet on which the quotient of row d and column g lies exactly on the signpost k + 1/2.
     ensures half { (tally : Tally) (before : Trail) (talk : Conversation) (exchanges prior rest : List Exchange) (x : Exchange)
         (sheet : Distribution) (is_final : Bool) (d g k : ℕ) → Headline tally before talk exchanges
         → exchanges ≡ prior ++ x ∷ rest → x.answer ≡ answers.Sheet sheet is_final
         → d < (question_of sheet).rows → g < (question_of sheet).columns
         → 2 * (cell (question_of sheet).columns (question_of sheet).votes d g * (sheet.lower.divisors.scale * sheet.lower.divisors.scale))
         ≡ (2 * k + 1) * (slice_index sheet.lower.divisors.of_rows d * slice_index sheet.lower.divisors.of_columns g) → ⊥ }
-    // Seats beside those of a sheet, by whatever divisors, of any scale, halves rounded either way.
+    // Seats that differ from those of a sheet, by divisors of any value and scale, with halves rounded up or down.
     ensures other_seats { (tally : Tally) (before : Trail) (talk : Conversation) (exchanges prior rest : List Exchange) (x : Exchange)
         (sheet : Distribution) (is_final : Bool) (divisors : Divisors) (seats : List ℕ) → Headline tally before talk exchanges
         → exchanges ≡ prior ++ x ∷ rest → x.answer ≡ answers.Sheet sheet is_final
         → IsWeak (question_of sheet) divisors seats → seats ≢ sheet.lower.seats → ⊥ }
-    // Seats where the answer is a tie, by whatever divisors.
+    // Strictly rounded seats, by any divisors, for totals that were answered with a tie.
     ensures tie { (tally : Tally) (before : Trail) (talk : Conversation) (exchanges prior rest : List Exchange) (x : Exchange)
         (targets : Targets (totals_of x.count)) (divisors : Divisors) (seats : List ℕ)
         → Headline tally before talk exchanges → exchanges ≡ prior ++ x ∷ rest → IsTie x.answer
         → IsStrict (lower_question (totals_of x.count) targets.seats targets.upper) divisors seats → ⊥ }
-    // Of two times a and b that follow each other: an acknowledgement that is written by b, of a command that a stop between loses.
+    // For consecutive times a and b: an acknowledgement, written by b, of a command that a stop between a and b loses.
     ensures early { (tally : Tally) (before : Trail) (talk : Conversation) (exchanges prior rest : List Exchange) (a b : Frame)
         (text c : List ℕ) (n : ℕ) → Headline tally before talk exchanges → exchanges ≡ prior ++ rest → AreNext talk a b
         → talk.first.written ≡ Some text → b.written ≡ Some (text ++ flat_map text_of prior) → StopsWithin a.disk b.disk c
         → n ≤ length (log_of prior).accepted → n < (log_of prior).acknowledged → Holds (after tally (take n (log_of prior).accepted)) c
         → ⊥ }
-    // A read that is made while a line that is complete in what was read has no answer, or another one, or two.
+    // A read at a time when the answers written are not exactly those to the complete lines read so far: for example, one is
+    // missing, wrong, or written twice.
     ensures late { (tally : Tally) (before : Trail) (talk : Conversation) (exchanges prior rest : List Exchange) (a b : Frame)
         (input left text : List ℕ) → Headline tally before talk exchanges → exchanges ≡ prior ++ rest → AreNext talk a b → a.kind ≡ Asks
         → talk.first.left ≡ Some (input ++ left) → a.left ≡ Some left → map (λ x. line_in x.given) prior ≡ map Some (ended_lines input)
         → talk.first.written ≡ Some text → a.written ≢ Some (text ++ flat_map text_of prior) → ⊥ }
-    // A moment of the disk with two commands more than those that are answered by then.
+    // For consecutive times a and b: an image, left by a stop between them, with at least two commands more than those answered
+    // by a.
     ensures unanswered { (tally : Tally) (before : Trail) (talk : Conversation) (exchanges prior rest : List Exchange) (a b : Frame)
         (text c : List ℕ) (n : ℕ) → Headline tally before talk exchanges → exchanges ≡ prior ++ rest → AreNext talk a b
         → talk.first.written ≡ Some text → a.written ≡ Some (text ++ flat_map text_of prior) → StopsWithin a.disk b.disk c
@@ -111,7 +114,7 @@ pub fn headline_excludes()
         → Holds (after tally (take n (log_of exchanges).accepted)) c → ⊥ }
 {}
 
-/// And an answer where no count stood.
+/// Another case that the promise excludes: an answer on a disk that holds no count.
 pub fn promise_excludes<I: Read, O: Write, E: Write, F: Files>()
     ensures { (arguments : List (List ℕ)) (old new : World I O E F) (status : ℕ) (used : Filmed I O F.Disk F.Text) (bytes : List ℕ)
         (x : Exchange) (rest : List Exchange)
@@ -120,34 +123,36 @@ pub fn promise_excludes<I: Read, O: Write, E: Write, F: Files>()
         → ((tally : Tally) → IsCanton tally.canton → ¬ HoldsFramed tally bytes) → promise.exchanges ≡ x ∷ rest → ⊥ }
 {}
 
-/// And a count that a task has lost which hands over no disk: what a stop may leave at its path, at any moment, holds what was found.
+/// Another excluded case: a task that hands over no disk and loses the count. Whatever a stop can newly leave at the path of
+/// the disk holds the count that was found.
 pub fn opening_excludes<F: Files>()
     ensures gone { (task : Task) (old new : F) (tally : Tally) (path bytes c : List ℕ)
         → LeavesAsFound task (F.disk_at old) (F.left old) (F.left new) → disk_path task ≡ Some path → F.disk_at old path ≡ Some bytes
         → Holds tally bytes → F.left new c → ¬ F.left old c → ¬ Holds tally c → ⊥ }
 {}
 
-/// Each opening of an image that opens to a count gives that count, or is refused for memory or by the device.
+/// Opening an image that opens to a count gives that count, or is refused for memory or by the device.
 pub fn reopenings()
     ensures ends { (count : Tally) (result : Result Ledger OpenFault) (old new : Trail) → OpensTo count old.now.bytes
         → Opens count.canton result old new
         → MatchResult result (λ ledger. ledger.tally ≡ count) (λ fault. (fault ≡ faults.Memory) ⊎ (fault ≡ faults.Device)) }
-    // There is no cause to refuse it but these.
+    // Only these two faults can have a cause.
     ensures causes { (count : Tally) (c : List ℕ) (fault : OpenFault) → OpensTo count c → IsCause count.canton c fault
         → (fault ≡ faults.Memory) ⊎ (fault ≡ faults.Device) }
 {}
 
-/// What a run, or a load, leaves of an honest disk that was clean and stood for a count: at each moment each image stands
-/// for that count with the first of the accepted commands, in order; in the end with all that were acknowledged.
+/// What a run or a load leaves of an honest disk that was clean and held a count: at every moment, every image holds that count
+/// after a prefix of the accepted commands; at the end, this prefix includes every acknowledged command.
 ///
-/// Each of these images is clean again, so this holds from one opening to the next.
+/// Each of these images is clean again, so the law applies from one opening to the next.
 pub fn kept_commands()
     ensures { (canton : Canton) (first last : History) (start end : OnDisk Office) (log : Log) (tally : Tally)
         → IsTrue last.honest → IsFrom canton first last start end → IsLogged (its_ledger start) log (its_ledger end)
         → IsCanton canton → IsCanton tally.canton → Holds tally first.trail.now.bytes → KeepsAll tally log first.trail last.trail }
 {}
 
-/// A check reads one byte more of a file than the longest sheet has. What is read is right exactly where the whole file is.
+/// A check reads at most one byte more than the longest sheet has. The bytes read are a right sheet exactly if the whole file
+/// is.
 pub fn whole_file_is_checked()
     ensures { (canton : Canton) (held : Option VoteTotals) (text : List ℕ) (right : RightSheet)
         → IsRight canton held (take 280065 text) right ↔ IsRight canton held text right }

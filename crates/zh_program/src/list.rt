@@ -1,4 +1,4 @@
-//! A table of a set-up, as a task shows it.
+//! Writing a table of a set-up.
 
 ghost use Rattle.std.specs.Prelude.{MatchResult};
 ghost use Rattle.zh_program.specs.List.{IsSplitIf, Listed, MayList, RefusesList};
@@ -14,7 +14,7 @@ use zh_districts::Setup;
 use zh_file::{Files, World};
 use zh_tables::{Table, exceeds_load, write_list};
 
-/// A table, and beside one of more returns than one loading takes how to split it.
+/// A table. If it has more returns than one load takes, a remark says how to split it.
 fn advise(alloc: Global, text: Vec<u8>, exceeds: bool) -> Result<Shown, TaskFault>
     ensures { GivesShown (IsSplitIf exceeds text.items) result }
 {
@@ -28,7 +28,7 @@ fn advise(alloc: Global, text: Vec<u8>, exceeds: bool) -> Result<Shown, TaskFaul
     Ok(Shown::Advised(text, line))
 }
 
-/// A table of a set-up.
+/// A table of a set-up as text, with advice if it is too long for one load. An error says why there is no table.
 fn list_of(alloc: Global, setup: &Setup, table: Table) -> Result<Shown, TaskFault>
     ensures { MatchResult result (MayList setup.now table) (RefusesList setup.now table) }
 {
@@ -37,7 +37,7 @@ fn list_of(alloc: Global, setup: &Setup, table: Table) -> Result<Shown, TaskFaul
     advise(alloc, text, exceeds)
 }
 
-/// Writes a table of the set-up whose text stands at this path.
+/// Writes a table of the set-up at a path.
 pub(crate) fn list_at<I: Read, O: Write, E: Write, F: Files>(
     alloc: Global,
     path: &str,

@@ -1,4 +1,4 @@
-//! Loading a CSV file, and saying what that would do.
+//! Loading a CSV file, and dry runs of a load.
 
 ghost use Rattle.std.specs.Prelude.{◌≡◌, [], false, IfErr, IfOk, OnErr, OnOk, IsErrOf, Some, true};
 ghost use Rattle.std.specs.Io.Buffered.{reader_buffer};
@@ -28,7 +28,7 @@ use zh_film::Film;
 use zh_office::{JudgementFault, NotedReader, Office, ServeFault, write_judgement};
 use zh_text::{WriteFault, put};
 
-/// The text at this path, with its first bytes read.
+/// Opens the CSV file at a path and fills the buffer of its reader once, so that an unreadable file is reported before a load.
 pub(crate) fn text_at<F: Files>(
     alloc: Global,
     files: &mut F,
@@ -49,7 +49,7 @@ pub(crate) fn text_at<F: Files>(
     Ok(text)
 }
 
-/// Writes a reply without its desk.
+/// Writes a reply without the number of a desk.
 fn print_reply<O: Write>(reply: &Reply, out: &mut O) -> Result<(), WriteFault>
     ensures all { OnOk result (Appends (O.contents out.old) (O.contents out.new) (printed reply.now)) }
     ensures front { OnErr result (WritesPart (O.contents out.old) (O.contents out.new) (printed reply.now)) }
@@ -57,7 +57,7 @@ fn print_reply<O: Write>(reply: &Reply, out: &mut O) -> Result<(), WriteFault>
     put(out, &answer_line(reply))
 }
 
-/// Gives an office a text, and writes the reply. The film notes that the reply comes last.
+/// Loads a text into an office, then writes the reply. The film notes that the reply comes after the work on the disk.
 fn load_text<I: Read, R: Read, O: Write, D: Disk>(
     office: &mut Office<'_>,
     disk: &mut D,
@@ -88,7 +88,8 @@ fn load_text<I: Read, R: Read, O: Write, D: Disk>(
     }
 }
 
-/// Opens the office on the disk, gives it the text at this path, and writes the reply. The reader of the text is handed out.
+/// Opens the office on the disk, loads the text at a path, and writes the reply. The reader of the text is handed over in
+/// `filmed`.
 pub(crate) fn load_from<I: Read, O: Write, E: Write, F: Files>(
     alloc: Global,
     setup: &Setup,
@@ -128,7 +129,7 @@ impl From<JudgementFault> for TaskFault {
     }
 }
 
-/// Judges a text against what an office holds, and writes what comes of it.
+/// Writes what a load of a text would do with an office's count. The fault is `Refused` if the forecast refuses a row.
 fn judge_text<R: Read, O: Write>(
     alloc: Global,
     office: &Office<'_>,
@@ -146,7 +147,7 @@ fn judge_text<R: Read, O: Write>(
     Ok(())
 }
 
-/// Says what a load of the CSV file at a path would do with what the office on a disk holds, and stores nothing.
+/// Writes what a load of the CSV file at a path would do with the count on a disk. Nothing is stored.
 pub(crate) fn dry_run<I: Read, O: Write, E: Write, F: Files>(
     alloc: Global,
     setup: &Setup,

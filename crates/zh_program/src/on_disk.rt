@@ -1,4 +1,4 @@
-//! What each task on a disk does: it reads the set-up, opens the disk, does its work, and hands the disk over.
+//! Tasks on a disk: reading the set-up, opening the disk, doing the work, and handing over the disk.
 
 ghost use Rattle.std.specs.Prelude.{◌≡◌, ◌≤◌, ◌+◌, [], IfErr, IfOk, Some, None};
 ghost use Rattle.zh_file.specs.Causes.{EndsAt};
@@ -27,19 +27,19 @@ use zh_office::NotedReader;
 /// What a task does with its disk.
 #[derive(Clone, Copy)]
 pub enum Work<'a> {
-    /// Formats it. Where there is none, it is made.
+    /// Formats it. If there is no file, one is created.
     Format,
     /// Answers the lines of the input.
     Run,
     /// Loads the CSV file at this path.
     Load(&'a str),
-    /// Says what that would do.
+    /// Reports what loading the CSV file at this path would do.
     DryRun(&'a str),
-    /// Shows what this asks of what is held.
+    /// Shows what this query asks for.
     Show(Query),
 }
 
-/// The disk at a path.
+/// Opens the disk at a path. For a formatting, a file that is missing or empty becomes a new disk.
 fn disk_at<F: Files>(
     files: &mut F,
     right: F::Right,
@@ -59,7 +59,7 @@ fn disk_at<F: Files>(
     }
 }
 
-/// Reads the set-up, and opens the disk.
+/// Reads the set-up and opens the disk.
 fn begin<F: Files>(
     alloc: Global,
     paths: Paths<'_>,
@@ -82,7 +82,7 @@ fn begin<F: Files>(
     Ok((setup, disk))
 }
 
-/// Does the work on a disk that was opened, and notes what is to be seen of it.
+/// Does the work on an open disk. What was read, written and done to the disk is noted in `filmed`.
 fn work_on<I: Read, O: Write, E: Write, F: Files>(
     alloc: Global,
     setup: &Setup,
@@ -103,7 +103,7 @@ fn work_on<I: Read, O: Write, E: Write, F: Files>(
     }
 }
 
-/// Reads the set-up, opens the disk, does the work, and hands the disk over whatever came of it.
+/// Reads the set-up, opens the disk, does the work, and hands over the disk whatever the result.
 pub(crate) fn on_disk<I: Read, O: Write, E: Write, F: Files>(
     alloc: Global,
     paths: Paths<'_>,
@@ -129,22 +129,22 @@ pub(crate) fn on_disk<I: Read, O: Write, E: Write, F: Files>(
     }
 }
 
-/// The reader of the text that a load was given. It notes whether a read failed.
+/// The reader of the text that is loaded. It notes whether a read failed.
 pub type LoadReader<T> = NotedReader<BufReader<T>>;
 
-/// A disk, with the record of its calls, and what is to be seen of the task that worked on it, which only clauses look at.
+/// A disk with the record of its calls, and what is noted of the task that used it. Only clauses look at the notes.
 #[derive(Drop)]
 pub struct Filmed<I, O, D, T> {
     pub disk: D,
-    /// What was read and answered, and what the disk was by then. Of a task that answers no line and loads no text it shows
-    /// nothing.
+    /// What was read and written, and the state of the disk at each of these times. For a task that answers no lines and loads
+    /// no text, it is empty.
     pub film: Film<I, O, D>,
     /// The reader of the text, if one was loaded.
     pub text: Option<LoadReader<T>>,
 }
 
 impl<I, O, D, T> Filmed<I, O, D, T> {
-    /// A disk with which nothing was done yet.
+    /// A disk that was not used yet.
     pub(crate) fn new(disk: D) -> Filmed<I, O, D, T>
         ensures disk { result.disk ≡ disk }
         ensures film { scenes result.film ≡ [] }
@@ -158,11 +158,11 @@ impl<I, O, D, T> Filmed<I, O, D, T> {
     }
 }
 
-/// What a task has used. It is handed over whatever the result.
+/// What a task hands over, whatever its result.
 #[derive(Drop)]
 pub enum Used<I, O, D, T> {
-    /// The disk that it has opened.
+    /// The disk that it opened.
     Disk(Filmed<I, O, D, T>),
-    /// The film of a rehearsal, whose disk was in memory and is gone.
+    /// The film of a rehearsal. Its disk was in memory and no longer exists.
     Rehearsal(Film<I, O, MemoryDisk>),
 }

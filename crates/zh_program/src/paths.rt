@@ -1,4 +1,4 @@
-//! The path of the file that a fault is of.
+//! The path of the file in which a fault occurred.
 
 ghost use Rattle.std.specs.Prelude.{◌≡◌, None, Some, MatchOption};
 ghost use Rattle.zh_program.specs.Paths.{fault_path, file_path, path_among, path_stated};
@@ -7,7 +7,7 @@ use crate::fault::TaskFault;
 use crate::place::TaskFile;
 use zh_arguments::{Paths, Task};
 
-/// The path of a set-up or a disk.
+/// The path of the file, for a task that is given a set-up and a disk.
 fn path_among<'a>(paths: Paths<'a>, file: TaskFile) -> Option<&'a str>
     ensures { MatchOption result (path_among paths.entry file ≡ None) (λ path. path_among paths.entry file ≡ Some path.now) }
 {
@@ -18,7 +18,7 @@ fn path_among<'a>(paths: Paths<'a>, file: TaskFile) -> Option<&'a str>
     }
 }
 
-/// That of a set-up or a sheet.
+/// The path of the file, for a task that is given a set-up and a sheet.
 fn path_stated<'a>(setup: &'a str, sheet: &'a str, file: TaskFile) -> Option<&'a str>
     ensures { MatchOption result (path_stated setup.now sheet.now file ≡ None)
         (λ path. path_stated setup.now sheet.now file ≡ Some path.now) }
@@ -30,7 +30,7 @@ fn path_stated<'a>(setup: &'a str, sheet: &'a str, file: TaskFile) -> Option<&'a
     }
 }
 
-/// The path of a file of a task, if it is given one.
+/// The path of the file, if the task is given one.
 fn file_path<'a>(task: Task<'a>, file: TaskFile) -> Option<&'a str>
     ensures { MatchOption result (file_path task.entry file ≡ None) (λ path. file_path task.entry file ≡ Some path.now) }
 {
@@ -53,7 +53,7 @@ fn file_path<'a>(task: Task<'a>, file: TaskFile) -> Option<&'a str>
     }
 }
 
-/// The path of the file that a fault of a task is of.
+/// The path of the file in which a fault of a task occurred, if it was a file with a path.
 pub(crate) fn fault_path<'a>(task: Task<'a>, fault: &TaskFault) -> Option<&'a str>
     ensures { MatchOption result (fault_path task.entry fault.now ≡ None) (λ path. fault_path task.entry fault.now ≡ Some path.now) }
 {

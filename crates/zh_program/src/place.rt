@@ -1,4 +1,4 @@
-//! The file that a fault is of, and the place in it.
+//! The file in which a fault occurred, and the place in it.
 
 ghost use Rattle.std.specs.Prelude.{◌≡◌, ◌≤◌, length};
 ghost use Rattle.zh_program.specs.Reports.{file_name, limits_text, place_text};
@@ -11,20 +11,20 @@ use zh_setups::{FaultPlace, Key};
 use zh_text::{push, push_bytes, push_numeral};
 use zh_verdicts::shown_place;
 
-/// A file that a task is given.
+/// A file that is given to a task.
 #[derive(Clone, Copy)]
 pub enum TaskFile {
     Setup,
     Disk,
-    /// The returns of a load.
+    /// The CSV file with the returns of a load.
     Csv,
     Sheet,
-    /// The rows held.
+    /// The export that a sheet is checked against.
     Held,
 }
 
 impl TaskFile {
-    /// The name of the fault that it can't be used.
+    /// The name of the fault if this file can't be used: at most 11 bytes.
     pub(crate) fn name(self) -> &'static str
         ensures name { result.now ≡ file_name self }
         ensures short { length result.now ≤ 11 }
@@ -39,23 +39,23 @@ impl TaskFile {
     }
 }
 
-/// Where a task met its fault, or why.
+/// Where a fault occurred, or its cause.
 #[derive(Clone, Copy)]
 pub enum TaskPlace {
     /// Why a file was not opened.
     Cause(FileCause),
     /// A place in the text of the set-up.
     Setup(FaultPlace),
-    /// A place there whose value is not within its limits.
+    /// A place in the text of the set-up whose value is out of range. The report shows the limits.
     Range(FaultPlace),
-    /// A file of so many bytes, and not of those of a disk.
+    /// The length of the disk's file in bytes, which is not that of a disk.
     Length(u64),
 }
 
-/// A place or a cause as it is shown: at most 115 bytes.
+/// A place or a cause, as text: at most 115 bytes.
 pub(crate) type PlaceWords = ArrayVec<u8, 128>;
 
-/// The limits of the value at a place of a set-up.
+/// The limits of the value at a place in a set-up, as text. It is empty for a key without shown limits.
 fn limits_of(place: &FaultPlace) -> &'static str
     ensures limits { result.now ≡ limits_text place.now }
     ensures short { length result.now ≤ 35 }
@@ -80,7 +80,7 @@ fn limits_of(place: &FaultPlace) -> &'static str
     }
 }
 
-/// A place, or a cause.
+/// A place or a cause, as text.
 pub(crate) fn place_words(place: &TaskPlace) -> PlaceWords
     ensures place { result.items ≡ place_text place.now }
     ensures short { length result.items ≤ 115 }

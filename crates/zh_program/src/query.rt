@@ -1,4 +1,4 @@
-//! Showing what a query asks of what is held.
+//! Answering a query from the count that a disk holds.
 
 ghost use Rattle.zh_program.specs.Query.{MayShow, ShowsHeld};
 ghost use Rattle.zh_program.specs.Shown.{GivesShown};
@@ -16,7 +16,7 @@ use zh_file::{Files, World};
 use zh_office::Office;
 use zh_tables::{said_of, write_status};
 
-/// What a query shows of what an office holds. An error is refused memory.
+/// What a query shows of an office's count. An error means that memory was refused.
 fn shown(alloc: Global, office: &Office<'_>, query: Query) -> Result<Shown, TaskFault>
     ensures { GivesShown (MayShow query office.now.ledger.tally) result }
 {
@@ -46,7 +46,7 @@ fn shown(alloc: Global, office: &Office<'_>, query: Query) -> Result<Shown, Task
     }
 }
 
-/// Shows what a query asks of what the office on a disk holds.
+/// Opens the office on a disk and writes what a query asks for.
 pub(crate) fn show<I: Read, O: Write, E: Write, F: Files>(
     alloc: Global,
     setup: &Setup,

@@ -1,4 +1,4 @@
-//! What is reported of a fault, and what a task says beside its answer.
+//! Reports of faults, and remarks on standard error.
 
 ghost use Rattle.std.specs.Prelude.{◌≡◌, ◌+◌, ◌≤◌, ◌++◌, length, option_map};
 ghost use Rattle.zh_program.specs.Paths.{shown_path};
@@ -14,13 +14,13 @@ use zh_office::{OpenFault, ServeFault};
 use zh_text::{push, push_bytes, push_name, put};
 use zh_verdicts::push_shown;
 
-/// How many bytes of a path are shown at most: no file has a longer one.
+/// The most bytes of a path that are shown. Linux accepts no longer path.
 const LONGEST_SHOWN: usize = 4_096;
 
-/// The lines of a report, which have at most 4,262 bytes.
+/// The lines of a report: at most 4,262 bytes.
 type Report = ArrayVec<u8, 4352>;
 
-/// Writes the name of a fault.
+/// Appends the name of a fault.
 fn push_fault(report: &mut Report, fault: &TaskFault)
     requires { length report.old.items ≤ 9 }
     ensures name { report.new.items ≡ report.old.items ++ fault_text fault.now }
@@ -43,7 +43,7 @@ fn push_fault(report: &mut Report, fault: &TaskFault)
     }
 }
 
-/// Writes a path as it is shown.
+/// Appends a path in the form in which it is shown, at most 4,096 bytes.
 fn push_path(report: &mut Report, path: &str)
     requires { length report.old.items ≤ 128 }
     ensures shown { report.new.items ≡ report.old.items ++ shown_path path.now }
@@ -52,7 +52,8 @@ fn push_path(report: &mut Report, path: &str)
     push_shown(report, path.as_bytes(), path.len().min(LONGEST_SHOWN));
 }
 
-/// Writes the second line: the path of the file, and the place in it or the cause, as far as they are known.
+/// Appends the second line: the path of the file, and the place in it or the cause, as far as known. Without either there is no
+/// line.
 fn push_second(report: &mut Report, path: Option<&str>, place: Option<TaskPlace>)
     requires { length report.old.items ≤ 46 }
     ensures { report.new.items ≡ report.old.items ++ second_line (option_map (λ p. p.now) path.entry) place }
@@ -76,8 +77,8 @@ fn push_second(report: &mut Report, path: Option<&str>, place: Option<TaskPlace>
     }
 }
 
-/// The name of a fault in a line, and in a second one its file, and its place or its cause, as far as they are known. It takes no
-/// memory.
+/// The report of a fault: a line with its name, then a line with its file and its place or cause, as far as known. It allocates
+/// no memory.
 fn report_lines(path: Option<&str>, fault: TaskFault) -> Report
     ensures { result.items ≡ report_text (option_map (λ p. p.now) path.entry) fault }
 {
@@ -89,7 +90,8 @@ fn report_lines(path: Option<&str>, fault: TaskFault) -> Report
     report
 }
 
-/// Reports a fault of the file at this path, if it is of one, and says what became of the report.
+/// Reports a fault to standard error, with the path of its file if it has one. The result says whether the report was written
+/// whole.
 pub(crate) fn report<E: Write>(path: Option<&str>, fault: TaskFault, faults: &mut E) -> Remark
     ensures { BecameOf result (E.contents faults.old) (E.contents faults.new) (report_text (option_map (λ p. p.now) path.entry) fault) }
 {
@@ -97,7 +99,7 @@ pub(crate) fn report<E: Write>(path: Option<&str>, fault: TaskFault, faults: &mu
     make_remark(lines.as_slice(), faults)
 }
 
-/// Makes a remark, and returns what became of it. Where it can't be written what was answered stands all the same.
+/// Writes a remark to standard error. The result says whether it was written whole. A task goes on either way.
 pub(crate) fn make_remark<E: Write>(text: &[u8], faults: &mut E) -> Remark
     ensures { BecameOf result (E.contents faults.old) (E.contents faults.new) text.now }
 {

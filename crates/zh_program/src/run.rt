@@ -1,4 +1,4 @@
-//! Serving on a disk, and a rehearsal.
+//! Serving the lines of the input, on a disk or as a rehearsal.
 
 ghost use Rattle.std.specs.Prelude.{◌≡◌, ◌^◌, [], false};
 ghost use Rattle.zh_film.specs.Frames.{frames};
@@ -23,14 +23,14 @@ use zh_film::Film;
 use zh_office::Office;
 use zh_setups::rehearsal;
 
-/// How many reads of the input a run makes at most.
+/// The most reads of the input that a run makes.
 fn most_reads() -> u64
     ensures { result ≡ 2 ^ 32 }
 {
     1 << 32
 }
 
-/// Opens the office that a disk holds, and serves the lines of the input.
+/// Opens the office on a disk and serves the lines of the input.
 pub(crate) fn serve_on<I: Read, O: Write, D: Disk>(
     alloc: Global,
     setup: &Setup,
@@ -51,7 +51,7 @@ pub(crate) fn serve_on<I: Read, O: Write, D: Disk>(
     serve_lines(&mut office, disk, input, out, film)
 }
 
-/// Serves the lines of the input on an office.
+/// Serves the lines of the input with an open office. A failure of the device during the run is reported at the end.
 fn serve_lines<I: Read, O: Write, D: Disk>(
     office: &mut Office<'_>,
     disk: &mut D,
@@ -74,7 +74,7 @@ fn serve_lines<I: Read, O: Write, D: Disk>(
     Ok(())
 }
 
-/// Serves the lines of the input on the office on the disk.
+/// Opens the office on the disk of a task and serves the lines of the input.
 pub(crate) fn run_from<I: Read, O: Write, E: Write, F: Files>(
     alloc: Global,
     setup: &Setup,
@@ -95,14 +95,14 @@ pub(crate) fn run_from<I: Read, O: Write, E: Write, F: Files>(
     )
 }
 
-/// Says of a rehearsal that nothing is kept. Where that can't be written it is one all the same.
+/// Announces that a rehearsal keeps nothing. If this can't be written, the rehearsal goes on.
 fn announce<E: Write>(faults: &mut E) -> Remark
     ensures { BecameOf result (E.contents faults.old) (E.contents faults.new) announcement }
 {
     make_remark(b"zhcount: rehearsal, nothing is kept\n", faults)
 }
 
-/// Serves the lines of the input on the set-up of the rehearsal, on a disk in memory.
+/// Serves the lines of the input on a new disk in memory, with the built-in set-up of the rehearsal.
 fn serve_rehearsal<I: Read, O: Write>(
     alloc: Global,
     input: &mut I,
@@ -118,7 +118,7 @@ fn serve_rehearsal<I: Read, O: Write>(
 {
     let setup = rehearsal(alloc)?;
     let mut disk = MemoryDisk::blank(alloc)?;
-    // A new disk in memory can be formatted and opened, unless memory is refused.
+    // Formatting and opening a new disk in memory fails only if memory is refused.
     let Ok(()) = format_blank(alloc, &setup, &mut disk) else {
         return Err(TaskFault::Memory);
     };
@@ -128,7 +128,7 @@ fn serve_rehearsal<I: Read, O: Write>(
     serve_lines(&mut office, &mut disk, input, out, film)
 }
 
-/// Rehearses, keeps nothing, and hands over the film of it.
+/// Announces and runs a rehearsal, then hands over its film. Nothing is kept.
 pub(crate) fn rehearse<I: Read, O: Write, E: Write, F: Files>(
     alloc: Global,
     world: &mut World<I, O, E, F>,

@@ -1,4 +1,4 @@
-//! The seats by a count.
+//! The seats computed from a count.
 
 ghost use Rattle.std.specs.Prelude.{◌≡◌, Bool, IfErr, IfOk};
 ghost use Rattle.zh_office.specs.Sheets.{MayAnswerSheet, MayGiveFor};
@@ -15,7 +15,7 @@ use zh_sheet::{Lot, NoSheet, SheetFault, SheetRefusal, explain_tie};
 use zh_sheet_text::{Mark, MarkedSheet, NoSeats, Source};
 use zh_totals::Totals;
 
-/// The refusal for a fault, with what the lot decides, if it does.
+/// The reason why a fault leaves no seats, with the seats that the lot decides, if given.
 fn told(fault: SheetFault, lot: Option<Lot>) -> NoSeats
     ensures { result ≡ told fault lot }
 {
@@ -28,8 +28,8 @@ fn told(fault: SheetFault, lot: Option<Lot>) -> NoSeats
     }
 }
 
-/// Why there are no seats where these totals have no sheet: with what the lot decides where seats are tied, and the reason of
-/// an exhausted search.
+/// The reason why these totals have no sheet: with the seats that the lot decides if seats are tied, and with the reason of an
+/// exhausted search.
 fn why_none(alloc: Global, totals: &Totals<'_>, none: NoSheet) -> NoSeats
     requires { HaveNoSheet totals.now none }
     ensures answer { (is_final : Bool) → MayGiveFor totals.now is_final (refusal_answer result) }
@@ -50,8 +50,8 @@ fn why_none(alloc: Global, totals: &Totals<'_>, none: NoSheet) -> NoSeats
     }
 }
 
-/// The seats by what an office holds, as its line `sheet` is answered, or those that are final, as its line `final` is; or
-/// why there are none.
+/// The seats of an office's count, as the line `sheet` would give them or, if `is_final`, the line `final`; or the reason why
+/// there are none.
 pub(crate) fn seats_by_count<'s>(
     alloc: Global,
     office: &Office<'s>,

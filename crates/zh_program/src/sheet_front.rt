@@ -1,4 +1,4 @@
-//! The front of the sheet at a path.
+//! Reading the sheet at a path, up to a fixed number of bytes.
 
 ghost use Rattle.std.specs.Prelude.{◌≡◌, IfErr, IfOk, ◌≤◌, ◌+◌, ◌++◌, ◌⊎◌, ℕ, List, false, length};
 ghost use Rattle.std.specs.Io.KnownBytes.{Consumes, IsAtEnd};
@@ -15,15 +15,15 @@ use zh_csv::NotedReader;
 use zh_file::Files;
 use zh_verdicts::SHEET_FRONT;
 
-/// How many bytes are read at once.
+/// The most bytes that one read asks for.
 const PIECE: usize = 4096;
 
-/// Room for so many bytes.
+/// A buffer of N zeros.
 fn room<const N: usize>() -> [u8; N] {
     [0; N]
 }
 
-/// The fault of a read, as the task's.
+/// Turns the error of a read into the fault of the task.
 fn read_fault(error: Error) -> TaskFault
     ensures { IsOfSheet result }
 {
@@ -33,8 +33,8 @@ fn read_fault(error: Error) -> TaskFault
     }
 }
 
-/// Reads the next piece of a file to the end of a text, and returns whether there may be more of its front. A read that
-/// fails, an interrupted one too, is the last.
+/// Reads the next piece of a file, appends it to a text, and returns whether to read on: `false` at the end of the file, or
+/// once the text has 280,065 bytes. Any error ends the reading, even an interrupted read.
 fn read_piece<R: Read>(file: &mut NotedReader<R>, text: &mut Vec<u8>) -> Result<bool, TaskFault>
     requires few { length text.old.items ≤ 280065 }
     requires unfailed { has_failed file.old ≡ false }
@@ -57,7 +57,7 @@ fn read_piece<R: Read>(file: &mut NotedReader<R>, text: &mut Vec<u8>) -> Result<
     }
 }
 
-/// The front of a sheet's file, of which no more is read.
+/// Reads the text of a sheet, up to 280,065 bytes: one more than the longest sheet has.
 fn read_front<R: Read>(alloc: Global, file: &mut NotedReader<R>) -> Result<Vec<u8>, TaskFault>
     requires { has_failed file.old ≡ false }
     ensures read { (bytes : List ℕ) × Consumes (R.remaining (inner_reader file.old)) (R.remaining (inner_reader file.new)) bytes

@@ -21,7 +21,7 @@ use zh_file::{Files, World};
 use zh_sheet_text::{Mark, MarkedSheet, NoSeats, Source};
 use zh_verdicts::unchecked_line;
 
-/// The files of a set-up and of a published sheet, and the form in which its seats are shown.
+/// The paths of a set-up and of a published sheet, and the layout in which the seats of the sheet are shown.
 #[derive(Clone, Copy)]
 pub(crate) struct SheetPaths<'a> {
     pub setup: &'a str,
@@ -29,7 +29,7 @@ pub(crate) struct SheetPaths<'a> {
     pub layout: Layout,
 }
 
-/// The set-up and the sheet at these paths.
+/// Reads the set-up and the sheet at these paths.
 fn read_both<F: Files>(
     alloc: Global,
     paths: SheetPaths<'_>,
@@ -44,7 +44,7 @@ fn read_both<F: Files>(
     Ok((setup, text))
 }
 
-/// The seats of a sheet, marked as it states.
+/// The seats of a sheet, marked with what the sheet states: whether it is final, and how many commands were accepted.
 fn stated(right: RightSheet<'_>) -> MarkedSheet<'_>
     ensures { result ≡ stated right.entry }
 {
@@ -59,7 +59,7 @@ fn stated(right: RightSheet<'_>) -> MarkedSheet<'_>
     }
 }
 
-/// The seats of a right sheet, and beside them what no check can tell of them.
+/// The seats of a right sheet, and a remark on what no check can verify about them.
 fn shown_stated(alloc: Global, right: RightSheet<'_>, layout: Layout) -> Result<Shown, TaskFault>
     ensures { GivesShown (AreStated layout right.entry) result }
 {
@@ -68,7 +68,7 @@ fn shown_stated(alloc: Global, right: RightSheet<'_>, layout: Layout) -> Result<
     Ok(Shown::Advised(text, line))
 }
 
-/// The seats on a text, if it is a right sheet of a set-up, or else why there are none.
+/// The seats of a text that is a right sheet of a set-up, or the reason why there are none.
 fn shown_of(alloc: Global, setup: &Setup, text: &[u8], layout: Layout) -> Result<Shown, TaskFault>
     ensures { GivesShown (MayShowSheet setup.now text.now layout) result }
 {
@@ -78,7 +78,7 @@ fn shown_of(alloc: Global, setup: &Setup, text: &[u8], layout: Layout) -> Result
     }
 }
 
-/// Writes the seats of a published sheet, if it is right.
+/// Writes the seats of a published sheet, if the sheet is right.
 pub(crate) fn sheet_seats<I: Read, O: Write, E: Write, F: Files>(
     alloc: Global,
     paths: SheetPaths<'_>,
@@ -91,7 +91,7 @@ pub(crate) fn sheet_seats<I: Read, O: Write, E: Write, F: Files>(
     write_shown(&shown, world)
 }
 
-/// A published sheet of a set-up with its seats, and what its first line states of them, if it is right.
+/// Checks a published sheet of a set-up. If it is right, the result has its seats and what its first line states about them.
 pub(crate) fn seats_by_sheet<'s>(
     alloc: Global,
     setup: &'s Setup,

@@ -1,4 +1,4 @@
-//! What a task shows: seats, or why there are none, and the version.
+//! What a task shows: a text, for example the seats, or the reason why there are none; and the version.
 
 ghost use Rattle.std.specs.Prelude.{◌≡◌, IfErr, IfOk};
 ghost use Rattle.zh_program.specs.Shown.{OnlyWrites, WritesShown, GivesShown};
@@ -21,16 +21,16 @@ use zh_text::put;
 /// What a task shows.
 #[derive(Drop)]
 pub(crate) enum Shown {
-    /// A text for the output.
+    /// A text for standard output.
     Text(Vec<u8>),
-    /// One, and what is said beside it to the standard error.
+    /// A text for standard output and a remark for standard error.
     Advised(Vec<u8>, Vec<u8>),
-    /// None, and to the standard error why.
+    /// No text; the reason goes to standard error.
     Nothing(Vec<u8>),
 }
 
-/// Writes what is shown. Where the standard error can't be written a text stands all the same, and the status says that
-/// there is none.
+/// Writes what is shown. If the remark can't be written to standard error, the result is the same: the text is done, or the
+/// fault is `Refused`.
 pub(crate) fn write_shown<I: Read, O: Write, E: Write, F: Files>(
     shown: &Shown,
     world: &mut World<I, O, E, F>,
@@ -52,7 +52,7 @@ pub(crate) fn write_shown<I: Read, O: Write, E: Write, F: Files>(
     Ok(())
 }
 
-/// The records of seats.
+/// The records of the seats, as text.
 fn records_of(alloc: Global, seats: &MarkedSheet<'_>, of: SeatsOf) -> Result<Vec<u8>, TaskFault>
     ensures text { IfOk result (λ text. text.items ≡ seat_records of seats.now) }
     ensures fault { IfErr result (λ fault. fault ≡ faults.Memory) }
@@ -73,7 +73,7 @@ fn records_of(alloc: Global, seats: &MarkedSheet<'_>, of: SeatsOf) -> Result<Vec
     }
 }
 
-/// The table of seats for people.
+/// The seats as a table for people.
 fn table_of(alloc: Global, seats: &MarkedSheet<'_>, of: SeatsOf) -> Result<Vec<u8>, TaskFault>
     ensures text { IfOk result (λ text. text.items ≡ seat_table of seats.now) }
     ensures fault { IfErr result (λ fault. fault ≡ faults.Memory) }
@@ -94,7 +94,7 @@ fn table_of(alloc: Global, seats: &MarkedSheet<'_>, of: SeatsOf) -> Result<Vec<u
     }
 }
 
-/// The text of seats in a form.
+/// The seats in this layout, as records or as a table.
 pub(crate) fn text_of(
     alloc: Global,
     seats: &MarkedSheet<'_>,
@@ -110,14 +110,14 @@ pub(crate) fn text_of(
     }
 }
 
-/// Why there are no seats.
+/// The reason why there are no seats, as text for standard error.
 pub(crate) fn shown_reason(alloc: Global, setup: &Setup, why: &NoSeats) -> Result<Shown, TaskFault>
     ensures { GivesShown (IsShownReason setup.now why.now) result }
 {
     Ok(Shown::Nothing(refusal_text(alloc, setup, why)?))
 }
 
-/// Seats, or why there are none.
+/// The seats in this layout, or the reason why there are none.
 pub(crate) fn shown_seats(
     alloc: Global,
     setup: &Setup,
@@ -132,7 +132,7 @@ pub(crate) fn shown_seats(
     }
 }
 
-/// Writes the line with the version, which the file `VERSION` at the top of the repository has too.
+/// Writes the version line. The file `VERSION` at the root of the repository contains the same version.
 pub(crate) fn write_version<O: Write>(out: &mut O) -> Result<(), TaskFault>
     ensures { WritesVersion (O.contents out.old) (O.contents out.new) result }
 {

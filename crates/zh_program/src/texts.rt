@@ -1,4 +1,4 @@
-//! The text at a path, and the set-up that stands there.
+//! Opening the text at a path, and reading a set-up.
 
 ghost use Rattle.std.specs.Prelude.{◌≡◌, IfErr, IfOk};
 ghost use Rattle.zh_program.specs.Texts.{IsOfSetup, IsUnopened};
@@ -12,10 +12,10 @@ use zh_districts::Setup;
 use zh_file::{FileFault, Files};
 use zh_setups::read_setup;
 
-/// How many bytes of a set-up's file are read at most: one more than a set-up may have, so that a longer one is noticed.
+/// The most bytes that are read of a set-up's file: one more than a set-up may have, to detect a longer file.
 const LONGEST_SETUP: u64 = 1_048_577;
 
-/// The text at this path, which is that of this file of the task.
+/// Opens the text at a path. `file` is the role of the file in the task and names it in a fault.
 pub(crate) fn open_text<F: Files>(
     files: &mut F,
     path: &str,
@@ -32,7 +32,7 @@ pub(crate) fn open_text<F: Files>(
     }
 }
 
-/// The front of the text at this path.
+/// Reads the text of a set-up at a path, up to 1,048,577 bytes.
 fn front_of_text<F: Files>(alloc: Global, files: &mut F, path: &str) -> Result<Vec<u8>, TaskFault>
     ensures call { AreCalls F.Files 1 files.old files.new }
     ensures front { IfOk result (λ text. IsFrontAt (F.text_at files.old path.now) text.items) }
@@ -47,7 +47,7 @@ fn front_of_text<F: Files>(alloc: Global, files: &mut F, path: &str) -> Result<V
     }
 }
 
-/// The set-up whose text stands at this path.
+/// Reads the set-up at a path.
 pub(crate) fn setup_at<F: Files>(
     alloc: Global,
     files: &mut F,

@@ -1,4 +1,4 @@
-//! Arguments that can't be read.
+//! Arguments that can't be read from the operating system.
 
 ghost use Rattle.std.specs.IoError.{error_kind};
 ghost use Rattle.std.specs.Prelude.{◌≡◌};
@@ -10,7 +10,8 @@ use crate::report::{make_remark, report};
 use std::io::{Error, ErrorKind, Write};
 use zh_file::World;
 
-/// The status of arguments that can't be read, with this error. The reason is reported.
+/// Returns the status for arguments that can't be read and reports the reason: 2 if one of them is not UTF-8, 1 if memory was
+/// refused.
 pub fn refuse_unread<I, O, E: Write, F>(error: &Error, world: &mut World<I, O, E, F>) -> u8
     ensures status { result ≡ (unread (error_kind error.now)).0 }
     ensures rest { world.new ≡ record world.old { faults = world.new.faults; remark = world.new.remark } }

@@ -7,7 +7,7 @@ use Rattle.zh_divisors.proofs.CallerLemmas.{sum_to-suc, sum_to-le}
 use Rattle.zh_totals.proofs.CallerLemmas.{group_within}
 use Rattle.zh_quorum.specs.Quorum.{ReachesSomewhere, ReachesCantonQuorum, TakesPart, group_votes}
 
--- the first numbers have no greater sum than all
+-- the sum of the first k numbers is at most the sum of all
 sum_to_front : (k n : ℕ) (f : ℕ → ℕ) → k ≤ n → sum_to k f ≤ sum_to n f
 sum_to_front k zero f within = let none : k ≡ 0 = omega arith in rw none (omega arith)
 sum_to_front k (suc n) f within =
@@ -22,7 +22,7 @@ group_votes-within totals g from_one there =
     sum_to-le (length totals.canton.constituencies) (λ i. votes_in totals (i + 1) g) (λ i. constituency_votes totals (i + 1))
     (λ i lt. group_within totals (i + 1) g from_one there)
 
--- one constituency more
+-- one more constituency
 pub one_more : (f : ℕ → ℕ) (k votes next : ℕ) → votes ≡ sum_to k f → next ≡ f k → votes + next ≡ sum_to (k + 1) f
 one_more f k votes next so_far here = omega (arith, sum_to-suc k f)
 
@@ -40,7 +40,7 @@ all_votes-few totals k votes next are within so_far here =
     let front = sum_to_front (k + 1) (length totals.canton.constituencies) (λ i. constituency_votes totals (i + 1)) (omega arith) in
     omega (arith, more, front, are.most)
 
--- the list of a group has votes in one constituency
+-- the list of a group has votes in some constituency
 pub record HasVotes (totals : VoteTotals) (g : ℕ) : Type 0 where
   pub d : ℕ
   pub from_one : 1 ≤ d
@@ -63,6 +63,6 @@ in_canton totals g is =
     let found = some_positive (length totals.canton.constituencies) (λ i. votes_in totals (i + 1) g) is.some_votes in
     record { d = found.0 + 1; from_one = omega arith; there = omega (arith, found.1); some_votes = found.2 }
 
--- who takes part has a list with votes
+-- a group that takes part has a list with votes
 pub has_votes : (totals : VoteTotals) (g : ℕ) → TakesPart totals g → HasVotes totals g
 has_votes totals g is = elim is.reaches [ inl somewhere ↦ reaching totals g somewhere | inr canton ↦ in_canton totals g canton ]

@@ -1,4 +1,4 @@
-//! The quorum in the whole canton.
+//! The canton-wide quorum.
 ghost use Rattle.std.specs.Prelude.{◌≡◌, ◌≤◌, ◌↔◌, IsTrue, length};
 ghost use Rattle.zh_quorum.specs.Quorum.{ReachesCantonQuorum, group_votes};
 ghost use Rattle.zh_totals.specs.Totals.{all_votes};
@@ -29,8 +29,8 @@ fn all_votes(totals: &Totals) -> u64
     votes
 }
 
-/// Whether a group has votes, and at least the part of the votes of the whole canton that the set-up asks for, if it asks
-/// for one.
+/// Whether the set-up has a canton-wide quorum, and the group has votes and at least this share, in per mille, of all votes
+/// of the canton.
 pub(crate) fn reaches_canton_quorum(totals: &Totals, group: u32) -> bool
     requires from_one { 1 ≤ group }
     requires there { group ≤ length totals.now.canton.groups }

@@ -1,4 +1,4 @@
-//! The quorum: which groups take part in the apportionment (GPR section 102, and a canton-wide quorum beside it).
+//! The quorum: which groups take part in the apportionment (GPR section 102, and in addition a canton-wide quorum).
 #![tactic(auto)]
 
 pub use quorum::participating;

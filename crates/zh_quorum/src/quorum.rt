@@ -1,4 +1,4 @@
-//! The quorum: the groups that take part.
+//! The quorum: which groups take part.
 ghost use Rattle.std.specs.Prelude.{◌≤◌, ◌↔◌, IfOk, IsTrue, length};
 ghost use Rattle.zh_quorum.specs.Quorum.{AreParticipating, ReachesQuorum, ReachesSomewhere, TakesPart};
 
@@ -6,7 +6,7 @@ use crate::canton_quorum::reaches_canton_quorum;
 use std::alloc::{AllocError, Global};
 use zh_totals::Totals;
 
-/// Whether the list of a group has votes in a constituency, and at least 5 per cent of the votes there.
+/// Whether the list of a group has votes in a constituency and at least 5 per cent of all votes there.
 fn reaches_quorum(totals: &Totals, constituency: u32, group: u32) -> bool
     requires from_one { 1 ≤ constituency }
     requires there { constituency ≤ length totals.now.canton.constituencies }
@@ -18,7 +18,7 @@ fn reaches_quorum(totals: &Totals, constituency: u32, group: u32) -> bool
     votes > 0 && 100 * votes >= 5 * totals.constituency(constituency)
 }
 
-/// Whether the list of a group reaches the quorum in one constituency.
+/// Whether the list of a group reaches the quorum in some constituency.
 fn reaches_somewhere(totals: &Totals, group: u32) -> bool
     requires from_one { 1 ≤ group }
     requires there { group ≤ length totals.now.canton.groups }
@@ -32,7 +32,7 @@ fn reaches_somewhere(totals: &Totals, group: u32) -> bool
     false
 }
 
-/// Whether a group reaches the quorum in one constituency, or that of the whole canton.
+/// Whether a group reaches the quorum in some constituency, or the canton-wide quorum.
 fn takes_part(totals: &Totals, group: u32) -> bool
     requires from_one { 1 ≤ group }
     requires there { group ≤ length totals.now.canton.groups }
@@ -41,9 +41,9 @@ fn takes_part(totals: &Totals, group: u32) -> bool
     reaches_somewhere(totals, group) || reaches_canton_quorum(totals, group)
 }
 
-/// For each group in order whether it takes part in the apportionment: whether one of its lists has at least
-/// 5 per cent of the votes of its constituency, and any votes (GPR section 102); or, where the set-up has a canton-wide
-/// quorum, whether the group has that part of the votes of the whole canton, and any votes.
+/// For each group, in order, whether it takes part in the apportionment. It does if one of its lists has votes and at least
+/// 5 per cent of the votes of its constituency (GPR section 102). If the set-up has a canton-wide quorum, it also does if it
+/// has votes and at least that share of all votes of the canton.
 pub fn participating(alloc: Global, totals: &Totals) -> Result<Vec<bool>, AllocError>
     ensures { IfOk result (λ taking. AreParticipating totals.now taking.items) }
 {

@@ -1,4 +1,4 @@
--- The names of a set-up, as records have them. Constituencies, municipalities and groups are numbered from 1.
+-- The names in a set-up, as they are in records. Constituencies, municipalities and groups are numbered from 1.
 use Rattle.std.specs.Prelude.{ℕ, ◌-◌, List, [], slice_get}
 use Rattle.std.specs.Option.{option_map_or}
 use Rattle.zh_districts.specs.Canton.{Canton}

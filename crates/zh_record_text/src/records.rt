@@ -1,4 +1,4 @@
-//! Records of comma-separated text, and tables: the names of the columns, and then what there is for each number.
+//! Records of comma-separated text, and tables: a record with the names of the columns, then the rows.
 ghost use Rattle.std.specs.Io.KnownBytes.{Appends};
 ghost use Rattle.std.specs.Prelude.{OnOk, map, ◌++◌, ℕ, List, Option, IfOk};
 ghost use Rattle.zh_record_text.specs.Records.{IsBetweenRecords, PutsText, record_text, HasWritten};
@@ -8,18 +8,18 @@ use csv::{Error, ErrorKind, Writer, WriterBuilder};
 use std::io::Write;
 use thiserror::Error as ErrorOfLibrary;
 
-/// Why a record is not written to its end.
+/// Why a record was not written in full.
 #[derive(Clone, Copy, Debug, PartialEq, Eq, ErrorOfLibrary)]
 pub enum RecordFault {
-    /// Memory ran out.
+    /// An allocation was refused.
     #[error("memory")]
     Memory,
-    /// The writer failed, or took no byte.
+    /// The writer failed or accepted zero bytes.
     #[error("write")]
     Write,
 }
 
-/// The fault for an error of the writer.
+/// The fault for an error of the CSV writer.
 fn fault_by(error: &Error) -> RecordFault {
     match error.kind() {
         ErrorKind::OutOfMemory => RecordFault::Memory,
@@ -27,7 +27,7 @@ fn fault_by(error: &Error) -> RecordFault {
     }
 }
 
-/// Writes the record of these fields. After an error a front of it may be written.
+/// Writes these fields as one record. On an error, a prefix of it might have been written.
 pub fn write_record<W: Write + Drop>(
     writer: &mut Writer<W>,
     fields: &[&[u8]],
@@ -41,7 +41,7 @@ pub fn write_record<W: Write + Drop>(
     }
 }
 
-/// Writes the record of these names. After an error a front of it may be written.
+/// Writes these names as one record. On an error, a prefix of it might have been written.
 pub(crate) fn write_names<W: Write + Drop>(
     writer: &mut Writer<W>,
     names: &[&str],
@@ -55,25 +55,25 @@ pub(crate) fn write_names<W: Write + Drop>(
     }
 }
 
-/// What there is to write for each number from 1 on: a record, several, or none.
+/// Rows that are written number by number, from 1 to a last number. A number has one record, several, or none.
 pub trait NumberedRows<W: Write + Drop> {
     ghost use Rattle.std.specs.Prelude.{◌≡◌, ◌≤◌, ℕ, List, OnOk};
     ghost use Rattle.zh_record_text.specs.Records.{IsBetweenRecords, PutsText};
 
-    /// What must hold of them.
+    /// What must hold for the rows to be written.
     ghost AreRows: { Self → Type 0 };
 
-    /// The last number.
+    /// The last number; 0 if there are none.
     ghost numbers: { Self → ℕ };
 
-    /// The text of a number.
+    /// The text that is written for a number.
     ghost text: { Self → ℕ → List ℕ };
 
-    /// The last number, 0 where there is none.
+    /// The last number; 0 if there are none.
     fn last(&self) -> u32
         ensures { result ≡ numbers self.now };
 
-    /// Writes the text of a number. After an error a front of it may be written.
+    /// Writes the text of a number, 1 to the last. On an error, a prefix of it might have been written.
     fn write_row(&self, writer: &mut Writer<W>, number: u32) -> Result<(), RecordFault>
         requires whole { AreRows self.now }
         requires ready { IsBetweenRecords writer.old }
@@ -82,7 +82,7 @@ pub trait NumberedRows<W: Write + Drop> {
         ensures { OnOk result (PutsText W.contents (text self.now number) writer.old writer.new) };
 }
 
-/// Writes the text of each number. After an error a front of it may be written.
+/// Writes the text of each number, in order. On an error, a prefix of it all might have been written.
 pub fn write_each<W: Write + Drop, T: NumberedRows<W>>(
     writer: &mut Writer<W>,
     rows: &T,
@@ -97,7 +97,7 @@ pub fn write_each<W: Write + Drop, T: NumberedRows<W>>(
     Ok(())
 }
 
-/// Begins a table with the names of its columns. After an error a front of them may be written.
+/// Begins a table: writes the names of its columns. On an error, a prefix of them might have been written.
 pub fn open_table<W: Write + Drop>(columns: &[&str], writer: W) -> Result<Writer<W>, RecordFault>
     ensures { IfOk result (HasWritten W.contents (W.contents writer) (record_text (map (λ column. column.now) columns.now))) }
 {
@@ -106,7 +106,7 @@ pub fn open_table<W: Write + Drop>(columns: &[&str], writer: W) -> Result<Writer
     Ok(writer)
 }
 
-/// Gives back what a table was written to, which then has all of it.
+/// Ends a table and returns the underlying writer, which then has all of the table.
 pub fn close_table<W: Write + Drop>(writer: Writer<W>) -> Result<W, RecordFault>
     ensures { (under : Option (List ℕ)) (text : List ℕ) → HasWritten W.contents under text writer
         → IfOk result (λ after. Appends under (W.contents after) text) }
@@ -117,8 +117,8 @@ pub fn close_table<W: Write + Drop>(writer: Writer<W>) -> Result<W, RecordFault>
     }
 }
 
-/// Writes a table: the names of its columns, and then the text of each number. It gives the writer back. After an error a
-/// front of the table may be written.
+/// Writes a table: the names of its columns, then the text of each number. Returns the writer. On an error, a prefix of
+/// the table might have been written.
 pub fn write_table<W: Write + Drop, T: NumberedRows<W>>(
     columns: &[&str],
     rows: &T,

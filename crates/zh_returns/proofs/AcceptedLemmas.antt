@@ -1,4 +1,4 @@
--- What an accepted command says fits its bytes.
+-- The numbers of an accepted command fit into its bytes.
 use Rattle.std.proofs.Common.{◌≡◌, ◌<◌, ◌^◌, ◌∙◌, ℕ, Bool, true, false, not, cond, List, map, Option, Some, None, get_or, sym, ap, refl, arith}
 use Rattle.std.specs.Prelude.{All}
 use Rattle.std.specs.FinSet as set
@@ -41,7 +41,7 @@ row_fits tally row limits unrefused =
     let p = passes tally row.municipality row.list row.number (Some row.votes) unrefused in
     (municipality_fits tally row.municipality limits (placed tally.canton row.municipality row.list p.place).0, list_fits tally row.municipality row.list (Some row.votes) limits p)
 
--- a municipality that is closed or opened is there
+-- a municipality that can be closed or reopened is in the set-up
 there_if : (there : Bool) (other : Verdict) → cond (not there) (Refused reasons.Municipality) other ≡ Accept → there ≡ true
 there_if true other is = refl
 there_if false other is = absurd (cc)

@@ -1,4 +1,4 @@
--- A count with the accepted ones among the first rows of a batch.
+-- The count after the accepted rows among the first rows of a batch.
 use Rattle.std.proofs.Common.{◌≡◌, ◌+◌, ◌++◌, ◌∙◌, ℕ, Bool, true, false, cond, List, [], ◌∷◌, map, take, get_or, Some, sym, ap, refl, arith}
 use Rattle.std.specs.Prelude.{slice_get, filter}
 use Rattle.std.specs.List.{list_any}
@@ -27,11 +27,11 @@ use Rattle.zh_returns.proofs.VerdictLemmas.{rows_more}
 abbrev pub upto : Origin → Tally → List Row → ℕ → Tally
 upto origin tally rows i = record tally { entries = with_rows origin tally.entries (accepted_rows tally (take i rows)) }
 
--- a count with the entry of a row put over what it holds
+-- a count with the entry of a row put in, in place of what is held
 abbrev pub with_row : Origin → Tally → Row → Tally
 with_row origin tally row = record tally { entries = map_of.insert tally.entries (row_key row) (entry_of origin row) }
 
--- of a key that no row has, whichever rows are put, the entry stays
+-- under a key that no row has, the entry does not change, whichever rows are put in
 put_or_not : (origin : Origin) (accepted : Bool) (entries : map_of.FinMap key_cmp Entry) (row : Row) (rows : List Row) (key : ℕ × ℕ) → eq_by_cmp key_cmp key (row_key row) ≡ false →
     ((other : map_of.FinMap key_cmp Entry) → map_of.get (with_rows origin other rows) key ≡ map_of.get other key) →
     map_of.get (with_rows origin entries (cond accepted (row ∷ rows) rows)) key ≡ map_of.get entries key
@@ -48,7 +48,7 @@ other_rows origin p entries (row ∷ rows) key fresh =
     let parts = or_parts (eq_by_cmp key_cmp key (row_key row)) (list_any (eq_by_cmp key_cmp key) (map row_key rows)) fresh in
     put_or_not origin (p row) entries row (filter p rows) key parts.0 (λ other. other_rows origin p other rows key parts.1)
 
--- the key of a row holds what it held before the batch, since the rows before it have others
+-- what is held under the key of a row is the same as before the batch, since the rows before it have other keys
 pub held_still : (origin : Origin) (tally : Tally) (rows : List Row) (i : ℕ) (row : Row) → IsBatch rows → slice_get rows i ≡ Some row
     → held (upto origin tally rows i) row.municipality row.list ≡ held tally row.municipality row.list
 held_still origin tally rows i row batch is =
@@ -59,7 +59,7 @@ held_still origin tally rows i row batch is =
     ∙ ap (list_any (eq_by_cmp key_cmp (get_or (map row_key rows) i (row_key row)))) (sym (take-map row_key i rows))
     ∙ fresh_from_distinct (map row_key rows) i (row_key row) batch.are_rows.keys (omega (arith, length-map rows row_key)))
 
--- so the verdict on it is that before the batch
+-- so the verdict on the row is the same as before the batch
 pub judged_still : (origin : Origin) (tally : Tally) (rows : List Row) (i : ℕ) (row : Row) → IsBatch rows → slice_get rows i ≡ Some row → judge_row (upto origin tally rows i) row ≡ judge_row tally row
 judged_still origin tally rows i row batch is =
     ap (λ entry.
@@ -67,7 +67,7 @@ judged_still origin tally rows i row batch is =
     cond (too_many (Some row.votes)) (Refused reasons.Votes) (cond (set.contains tally.closed row.municipality) (Refused reasons.Closed) (against entry row.number (Some row.votes))))) (
     held_still origin tally rows i row batch is)
 
--- one row more that is accepted is one entry more
+-- one more accepted row is one more entry
 more_rows : (tally : Tally) (rows : List Row) (i : ℕ) (row : Row) → slice_get rows i ≡ Some row → accepted_rows tally (take (i + 1) rows)
     ≡ accepted_rows tally (take i rows) ++ cond (is_accept (judge_row tally row)) (row ∷ []) []
 more_rows tally rows i row is =
@@ -85,7 +85,7 @@ pub next_row : (origin : Origin) (tally : Tally) (rows : List Row) (i : ℕ) (ro
     → is_accept (judge_row tally row) ≡ true → upto origin tally rows (i + 1) ≡ with_row origin (upto origin tally rows i) row
 next_row origin tally rows i row is accepted = with_more origin tally rows (row ∷ []) i row is (ap (λ b. cond b (row ∷ []) []) accepted)
 
--- one that is not accepted changes nothing
+-- a row that is not accepted changes nothing
 pub passed_row : (origin : Origin) (tally : Tally) (rows : List Row) (i : ℕ) (row : Row) → slice_get rows i ≡ Some row
     → is_accept (judge_row tally row) ≡ false → upto origin tally rows (i + 1) ≡ upto origin tally rows i
 passed_row origin tally rows i row is passed = with_more origin tally rows [] i row is (ap (λ b. cond b (row ∷ []) []) passed)

@@ -20,7 +20,7 @@ use Rattle.zh_returns.proofs.KeyLemmas.{key_test, keys_alike, fresh_from_distinc
 use Rattle.zh_returns.specs.Batches.{AreKeyed}
 use Rattle.zh_returns.specs.RowFaults.{fault_in, unfit_at}
 
--- a key is this one
+-- whether this is the key
 abbrev pub is_key : ℕ → ℕ → ℕ × ℕ → Bool
 is_key municipality list key = (municipality == key.0) && (list == key.1)
 
@@ -32,12 +32,12 @@ found_first m l e rest others keyed same = by (is_key m l e.0) (ap (is_key m l) 
     by true is = ap (λ c. c || others) is
     by false is = same ∙ ap (λ c. c || others) is
 
--- the map has an entry under a key exactly where a row with it is held
+-- the map has an entry under a key if and only if there is a row with the key
 pub found : (m l : ℕ) (es : List ((ℕ × ℕ) × Row)) → AreKeyed es → is_some (lookup (is_key m l) es) ≡ has_key (values_of es) (m, l)
 found m l [] keyed = refl
 found m l (e ∷ es) keyed = found_first m l e (lookup (is_key m l) es) (has_key (values_of es) (m, l)) (keyed 0 e (omega arith)) (found m l es (λ k d within. keyed (suc k) d (omega arith)))
 
--- where there is none, it has none
+-- if there is no row with the key, the map has no entry
 pub not_found : (m l : ℕ) (es : List ((ℕ × ℕ) × Row)) → AreKeyed es → has_key (values_of es) (m, l) ≡ false → lookup (is_key m l) es ≡ None
 not_found m l es keyed none = by (lookup (is_key m l) es) (found m l es keyed ∙ none)
   where
@@ -48,7 +48,7 @@ not_found m l es keyed none = by (lookup (is_key m l) es) (found m l es keyed �
 pub keyed_more : (es : List ((ℕ × ℕ) × Row)) (row : Row) → AreKeyed es → AreKeyed (es ++ (row_key row, row) ∷ [])
 keyed_more es row keyed = grind (arith, common_steps, All-append)
 
--- rows that take one more are fewer than 1,000, and none has its key
+-- a batch that takes one more row has fewer than 1,000 rows, and none with its key
 pub taken_by : (rows : List Row) (row : Row) → fault_in rows row ≡ None → (has_key rows (row_key row) ≡ false) × (nat_le 1000 (length rows) ≡ false)
 taken_by rows row none = by (has_key rows (row_key row)) (nat_le 1000 (length rows)) refl refl
   where
@@ -57,7 +57,7 @@ taken_by rows row none = by (has_key rows (row_key row)) (nat_le 1000 (length ro
     by false true e f = cc (rw (e, f) at none)
     by false false e f = (e, f)
 
--- a row that a batch may have is of a list that has a place there, with no more votes than a return may have
+-- the list of a row that a batch may contain stands there, and its votes are no more than a return may have
 pub fit_within : (place : Option Misplaced) (votes : ℕ) → unfit_at place votes ≡ None → (place ≡ None) × (votes ≤ most_votes)
 fit_within (Some place) votes none = absurd (cc none)
 fit_within None votes none = (refl, by (nat_lt most_votes votes) refl none)
@@ -66,7 +66,7 @@ fit_within None votes none = (refl, by (nat_lt most_votes votes) refl none)
     by true more wrong = absurd (cc wrong)
     by false few _ = grind (arith, nat_tests)
 
--- a row with a key of its own after others
+-- a row with a new key is appended
 pub batch_more : (rows : List Row) (row : Row) → AreRows rows → length rows < 1000 → has_key rows (row_key row) ≡ false → IsSpeakableRow row → AreRows (rows ++ row ∷ [])
 batch_more rows row are few fresh speakable = record {
   most = omega (arith, length_push rows row);
@@ -74,7 +74,7 @@ batch_more rows row are few fresh speakable = record {
   keys = subst (IsDistinct (eq_by_cmp key_cmp)) (sym (map_push row_key rows row)) (IsDistinct-push keys_alike (map row_key rows) (row_key row) are.keys fresh);
 }
 
--- what holds where a result is no error
+-- what holds if a result is not an error
 pub on_no_error : {A B : Type 0} (result : Result A B) (P : Type 0) → is_err result ≡ false → OnOk result P → P
 on_no_error (Ok x) P h on = on
 on_no_error (Err e) P h on = cc
@@ -84,7 +84,7 @@ get_or-seam : {X : Type 0} (xs : List X) (y : X) (ys : List X) (d : X) → get_o
 get_or-seam [] y ys d = refl
 get_or-seam (x ∷ xs) y ys d = get_or-seam xs y ys d
 
--- of rows with keys of their own, none before a row has its key
+-- if no two rows have the same key, none before a row has its key
 pub fresh_next : (done rest : List Row) (row : Row) → AreRows (done ++ row ∷ rest) → has_key done (row_key row) ≡ false
 fresh_next done rest row are =
     let keys : map row_key (done ++ row ∷ rest) ≡ map row_key done ++ row_key row ∷ map row_key rest = map-append row_key done (row ∷ rest) in

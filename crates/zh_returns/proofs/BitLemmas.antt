@@ -7,7 +7,7 @@ use Rattle.zh_districts.specs.Spelling.{mask_of}
 use Rattle.zh_districts.proofs.CallerLemmas.{mask_of-more, mask_of-lt}
 use Rattle.zh_returns.specs.Tables.{bit_of}
 
--- eight flags fit in a byte
+-- eight flags fit into a byte
 pub mask_of-fits : (xs : List Bool) → length xs ≤ 8 → mask_of xs < 2 ^ 8
 mask_of-fits xs short = let h = mask_of-lt xs in let up : 2 ^ length xs ≤ 2 ^ 8 = pow-le-pow_right {n = 2} (omega arith) short in omega arith
 
@@ -31,7 +31,7 @@ mask_of-not_here xs i m within here so_far =
     let more = mask_of-more xs i false within in
     rw (add-one i, more, here, so_far) (omega arith)
 
--- the higher bits are those of the half
+-- the higher bits of a number are those of its half
 higher_bit : (n k : ℕ) → bit_of n (suc k) ≡ bit_of (n / 2) k
 higher_bit n k = ap (λ (q : ℕ). q % 2 == 1) (ap (λ (p : ℕ). n / p) (pow-succ' 2 k) ∙ sym (div-div-eq-div-mul n 2 (2 ^ k)))
 
@@ -48,7 +48,7 @@ no_bits : (k : ℕ) → bit_of 0 k ≡ false
 no_bits zero = refl
 no_bits (suc k) = higher_bit 0 k ∙ no_bits k
 
--- a bit of the byte is a flag
+-- a bit of the byte is the flag at its place
 pub bit_of-mask_of : (flags : List Bool) (k : ℕ) → bit_of (mask_of flags) k ≡ get_or flags k false
 bit_of-mask_of [] k = no_bits k
 bit_of-mask_of (flag ∷ flags) zero = lowest_bit flag (mask_of flags)

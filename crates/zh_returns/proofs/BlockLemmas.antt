@@ -1,4 +1,4 @@
--- Lists made of blocks of one length.
+-- Lists made of blocks of the same length.
 use Rattle.std.proofs.Common.{◌≡◌, ◌<◌, ◌+◌, ◌*◌, ◌∙◌, ℕ, zero, suc, List, [], ◌∷◌, ◌++◌, length, get_or, take, drop, set, sym, ap, arith, length-append}
 use Rattle.std.specs.List.{flat_map}
 use Rattle.std.proofs.Math.Nat.{mul-suc}
@@ -6,7 +6,7 @@ use Rattle.std.proofs.lemmas.List.{append-nil, take_at, drop_at, drop-drop, take
 use Rattle.std.proofs.lemmas.List.Concat.{flat_map-append}
 use Rattle.std.proofs.Math.Seq.{take-add}
 
--- each block has so many places
+-- each block has `width` places
 pub record HasWidth {X A : Type 0} (f : X → List A) (width : ℕ) : Type 0 where
   pub at : (x : X) → length (f x) ≡ width
 
@@ -38,7 +38,7 @@ in_block f width wide xs i j d e within small =
     sym (get_or-drop (width * i) (flat_map f xs) j e) ∙ sym (get_or-take width (drop (width * i) (flat_map f xs)) j e small)
     ∙ ap (λ block. get_or block j e) (block_at f width wide xs i d within)
 
--- one block more
+-- one more block
 pub blocks_more : {X A : Type 0} (f : X → List A) (width : ℕ) (all : List A) (xs : List X) (i : ℕ) (x : X) → i < length xs →
     take (width * i) all ≡ flat_map f (take i xs) → f x ≡ take width (drop (width * i) all) → take (width * (i + 1)) all ≡ flat_map f (take (i + 1) (set xs i x))
 blocks_more f width all xs i x within before block =

@@ -1,4 +1,4 @@
--- What the crates above may use.
+-- The lemmas that crates above may use.
 pub use Rattle.zh_returns.proofs.AcceptedLemmas.{fits, speakable}
 pub use Rattle.zh_returns.proofs.BatchLemmas.{held_still, next_row, passed_row, upto, with_row}
 pub use Rattle.zh_returns.proofs.BatchRowLemmas.{batch_more, fit_within, taken_by}

@@ -23,7 +23,7 @@ get_or-closed closed first n k within =
 length-closed : (closed : ℕ → Bool) (first n : ℕ) → length (map closed (numbers first n)) ≡ n
 length-closed closed first n = length-map (numbers first n) closed ∙ length-numbers first n
 
--- flags in a row are whether the municipalities in a row are closed
+-- consecutive flags say whether consecutive municipalities are closed
 flags_in_row : (flags : List Bool) (m n : ℕ) → m + n ≤ length flags → take n (drop m flags) ≡ map (set_of.contains (closed_of flags)) (numbers (m + 1) n)
 flags_in_row flags m n room =
     let len : length (take n (drop m flags)) ≡ n = omega (arith, length-take n (drop m flags), length-drop m flags) in
@@ -36,7 +36,7 @@ flags_in_row flags m n room =
     ∙ sym (get_or-closed (set_of.contains (closed_of flags)) (m + 1) n k inside)
     )
 
--- bytes that hold eight flags each are those of the closed municipalities
+-- bytes that contain eight flags each are those of the closed municipalities
 pub packed : (flags : List Bool) (bytes : List ℕ) (tally : Tally) → tally.closed ≡ closed_of flags → length flags ≡ 8 * length bytes →
     ((byte : ℕ) → byte < length bytes → slice_index bytes byte ≡ mask_of (take 8 (drop (8 * byte) flags))) → bytes ≡ map (closed_byte tally) (numbers 0 (length bytes))
 packed flags bytes tally closed whole each =
@@ -51,7 +51,7 @@ packed flags bytes tally closed whole each =
     ∙ sym (get_or-map (closed_byte tally) (numbers 0 n) k 0 0 inside)
     )
 
--- flags that are the bits of bytes stand for municipalities that have these bytes
+-- if flags are the bits of bytes, eight flags each make these bytes again
 pub unpacked : (flags : List Bool) (bytes : List ℕ) → length flags ≡ 8 * length bytes → ((i : ℕ) → get_or bytes i 0 < 256) →
     ((place : ℕ) → place < length flags → get_or flags place false ≡ bit_of (slice_index bytes (place / 8)) (place % 8)) →
     (byte : ℕ) → byte < length bytes → slice_index bytes byte ≡ mask_of (take 8 (drop (8 * byte) flags))
@@ -68,7 +68,7 @@ unpacked flags bytes whole fit each byte within =
     ∙ ap (λ (i : ℕ). bit_of (slice_index bytes byte) i) bit
     ))
 
--- a bit of the bytes of a count is whether the municipality is closed
+-- a bit of the bytes of a count says whether the municipality is closed
 pub closed_bit : (tally : Tally) (n place : ℕ) → place < 8 * n → bit_of (slice_index (map (closed_byte tally) (numbers 0 n)) (place / 8)) (place % 8) ≡ set_of.contains tally.closed (place + 1)
 closed_bit tally n place within =
     let byte = place / 8 in
@@ -80,7 +80,7 @@ closed_bit tally n place within =
     ∙ get_or-closed (set_of.contains tally.closed) (8 * byte + 1) 8 (place % 8) (omega arith)
     ∙ ap (set_of.contains tally.closed) here
 
--- whether none of the flags is set
+-- no flag is set if and only if the test says so
 none_set-all : (flags : List Bool) → ((k : ℕ) → get_or flags k false ≡ false) → list_all not flags ≡ true
 none_set-all [] each = refl
 none_set-all (true ∷ flags) each = absurd (false≢true (sym (each 0)))
@@ -96,7 +96,7 @@ pub never : (b : Bool) → (b ≡ true → ⊥) → b ≡ false
 never true not_so = absurd (not_so refl)
 never false not_so = refl
 
--- of the bytes of a count no bit above the last municipality is set
+-- in the bytes of a count, no bit above the last municipality is set
 pub none_above : (tally : Tally) (flags : List Bool) (n : ℕ) → IsTally tally → length flags ≡ 8 * n →
     ((place : ℕ) → place < length flags → get_or flags place false ≡ bit_of (slice_index (map (closed_byte tally) (numbers 0 n)) (place / 8)) (place % 8)) →
     list_all not (drop (length tally.canton.municipalities) flags) ≡ true

@@ -20,14 +20,14 @@ pub row_once : (a b : Row) → IsSpeakableRow a → IsSpeakableRow b → row_spe
 row_once a b speakable_a speakable_b same =
     sym (row_back a [] speakable_a) ∙ ap row_from (ap (λ (bytes : List ℕ). bytes ++ []) same) ∙ row_back b [] speakable_b
 
--- the number of two bytes
+-- two bytes determine their number
 pub short_once : (m n : ℕ) → m < 2 ^ 16 → n < 2 ^ 16 → to_be_bytes w16 m ≡ to_be_bytes w16 n → m ≡ n
 short_once m n small_m small_n same = sym (from_be_bytes-to_be_bytes_2 m small_m) ∙ ap (from_be_bytes w16) same ∙ from_be_bytes-to_be_bytes_2 n small_n
 
 number_once : (m n : ℕ) → m < 2 ^ 32 → n < 2 ^ 32 → to_be_bytes w32 m ≡ to_be_bytes w32 n → m ≡ n
 number_once m n small_m small_n same = sym (from_be_bytes-to_be_bytes_4 m small_m) ∙ ap (from_be_bytes w32) same ∙ from_be_bytes-to_be_bytes_4 n small_n
 
--- the rows that bytes spell
+-- bytes determine the rows that they spell
 pub rows_once : (rows : List Row) (bytes : List ℕ) → All IsSpeakableRow rows → flat_map row_spelling rows ≡ bytes → rows_from (length rows) bytes ≡ rows
 rows_once rows bytes speakable is =
     ap (rows_from (length rows)) (sym is ∙ sym (append-nil (flat_map row_spelling rows))) ∙ rows_back rows [] speakable
@@ -41,7 +41,7 @@ batch_once a b batch_a batch_b same =
     ∙ ap (λ (n : ℕ). rows_from n (flat_map row_spelling a)) count
     ∙ rows_once b (flat_map row_spelling a) batch_b.are_rows.speakable (sym (ap (drop 2) same))
 
--- a kind and a desk that the format can say are read back from the front
+-- a kind and a desk that the format can name are read back from the front
 head_once : (format : Format) (one two desk other : ℕ) (fields others : List ℕ) → desk ≤ last_desk format → other ≤ last_desk format →
     head format one two desk ++ fields ≡ head format one two other ++ others → (desk ≡ other) × (fields ≡ others)
 head_once One one two desk other fields others said said_other same = (omega arith, ap (drop 1) same)
@@ -89,7 +89,7 @@ desk_fits : (format : Format) (desk : ℕ) → desk ≤ last_desk format → des
 desk_fits One desk said = omega arith
 desk_fits Two desk said = said
 
--- a command that is read from bytes fits those of format Two
+-- a command that is read from bytes fits into format Two
 pub speakable_fit : (format : Format) (command : Command) → IsSpeakable format command → FitsCommand command
 speakable_fit format (commands.Return desk row) is = (desk_fits format desk is.0, (is.1.municipality, is.1.list))
 speakable_fit format (commands.Withdraw desk municipality list number) is = (desk_fits format desk is.0, is.1.0, is.1.1)

@@ -25,7 +25,7 @@ number_once : (n m : ℕ) → n < 2 ^ 32 → m < 2 ^ 32 → to_be_bytes w32 n �
 number_once n m small_n small_m same =
     sym (from_be_bytes-to_be_bytes_4 n small_n) ∙ ap (from_be_bytes w32) same ∙ from_be_bytes-to_be_bytes_4 m small_m
 
--- numbers of four bytes
+-- the numbers fit into four bytes
 record HasRoom (fields : EntryFields) : Type 0 where
   number : fields.number < 2 ^ 32
   votes : fields.votes < 2 ^ 32
@@ -42,7 +42,7 @@ fields_once f g room_f room_g same =
 abbrev state_of : Option ℕ → ℕ
 state_of votes = cond (is_some votes) 1 2
 
--- the state and the votes of an entry say what it has
+-- the state and the votes determine what an entry has
 votes_once : (a b : Option ℕ) → state_of a ≡ state_of b → unwrap_or a 0 ≡ unwrap_or b 0 → a ≡ b
 votes_once None None state votes = refl
 votes_once None (Some w) state votes = absurd (omega arith)
@@ -61,7 +61,7 @@ held_once (Some entry) (Some other) same =
     let votes = votes_once entry.votes other.votes (ap (λ (f : EntryFields). f.state) same) (ap (λ (f : EntryFields). f.votes) same) in
     λ i. Some (record { origin = (same i).origin; number = (same i).number; votes = votes i })
 
--- the numbers of an entry within its limits have four bytes
+-- the numbers of an entry within its limits fit into four bytes
 entry_room : (format : Format) (held : Option Entry) → IfSome held (IsEntryOf format) → HasRoom (fields_of held)
 entry_room format None limits = record { number = lit< tt; votes = lit< tt }
 entry_room format (Some entry) limits = record { number = limits.number.1; votes = small entry.votes limits.votes }
@@ -70,13 +70,13 @@ entry_room format (Some entry) limits = record { number = limits.number.1; votes
     small None few = omega arith
     small (Some v) few = omega arith
 
--- so entries within their limits that have the same bytes are the same
+-- so entries within their limits with the same bytes are the same
 pub entry_once : (format : Format) (h k : Option Entry) → IfSome h (IsEntryOf format) → IfSome k (IsEntryOf format) → entry_spelling h ≡ entry_spelling k → h ≡ k
 unfolding entry_spelling
 entry_once format h k limits_h limits_k same =
     held_once h k (fields_once (fields_of h) (fields_of k) (entry_room format h limits_h) (entry_room format k limits_k) same)
 
--- what is held at the places so far, with one more
+-- what is held at the places so far, and at one more
 pub held_more : (format : Format) (canton : Canton) (table : List (Option Entry)) (i : ℕ) (held : Option Entry) → i < length table → IfSome held (IsHeldAt format canton (key_of i)) →
     ((k : ℕ) → k < i → IfSome (get_or table k None) (IsHeldAt format canton (key_of k))) → (k : ℕ) → k < i + 1 → IfSome (get_or (set table i held) k None) (IsHeldAt format canton (key_of k))
 held_more format canton table i held within here before k small = elim (cases_lt k i) [
@@ -88,7 +88,7 @@ held_more format canton table i held within here before k small = elim (cases_lt
       )
 ]
 
--- a table whose bytes at one place are those of no entry there has other bytes
+-- if the bytes at one place are not those of an entry there, the table has other bytes
 pub place_refused : (format : Format) (canton : Canton) (bytes : List ℕ) (other : List (Option Entry)) (i : ℕ) → i < length other
     → IsTable format canton other → flat_map entry_spelling other ≡ bytes →
     ((held : Option Entry) → IfSome held (IsHeldAt format canton (key_of i)) → entry_spelling held ≡ take (16 * i + 16 - 16 * i) (drop (16 * i) bytes) → ⊥) → ⊥

@@ -1,4 +1,4 @@
--- What a table of entries stands for.
+-- What a table of entries means.
 use Rattle.std.proofs.Common.{◌≡◌, ◌<◌, ◌≤◌, ◌+◌, ◌∙◌, ℕ, zero, suc, Bool, true, false, cond, List, [], ◌∷◌, length, get_or, set, Option, Some, None, sym, ap, subst, refl, arith}
 use Rattle.std.specs.List.{All, AllByRecursion}
 use Rattle.std.specs.Ordering.{eq_by_cmp}
@@ -20,7 +20,7 @@ find_missed place (Some entry ∷ table) key none =
     ap (λ b. cond b (Some entry) (map.find key_cmp key (entries_from (place + 1) table))) (none place (omega arith))
     ∙ find_missed (place + 1) table key (λ at from. none at (omega arith))
 
--- under the key of a place stands what the place holds
+-- what is found under the key of a place is what the place holds
 find_place : (place i : ℕ) (table : List (Option Entry)) → map.find key_cmp (key_of (place + i)) (entries_from place table) ≡ get_or table i None
 find_place place i [] = refl
 find_place place zero (None ∷ table) = find_missed (place + 1) table (key_of (place + 0)) (λ at from. other_key (place + 0) at (λ is. omega arith))
@@ -36,7 +36,7 @@ find_place place (suc i) (Some entry ∷ table) =
     ap (λ b. cond b (Some entry) (map.find key_cmp (key_of (place + suc i)) (entries_from (place + 1) table))) (other_key (place + suc i) place (λ is. omega arith))
     ∙ ap (λ at. map.find key_cmp (key_of at) (entries_from (place + 1) table)) next ∙ find_place (place + 1) i table
 
--- under the key of a place the table holds what the place holds
+-- what the table holds under the key of a place is what the place holds
 pub get-entries_of : (table : List (Option Entry)) (place : ℕ) → map.get (entries_of table) (key_of place) ≡ get_or table place None
 get-entries_of table place =
     map.get-from_entries keys_total (entries_from 0 table) (key_of place)
@@ -56,7 +56,7 @@ read_key table place municipality list read from_one list_from_one within place_
     get_or_read table place read in_table read_is None ∙ ap (λ at. get_or table at None) place_is
     ∙ sym (get_key table municipality list from_one list_from_one within)
 
--- a table with nothing at each place stands for the empty map
+-- a table without entries is the empty map
 entries_from-absent : (place : ℕ) (table : List (Option Entry)) → AllByRecursion (λ (entry : Option Entry). entry ≡ None) table → entries_from place table ≡ []
 entries_from-absent place [] absent = refl
 entries_from-absent place (None ∷ table) absent = entries_from-absent (place + 1) table absent.1
@@ -65,18 +65,18 @@ entries_from-absent place (Some entry ∷ table) absent = absurd (none-some entr
 pub entries_of-absent : (table : List (Option Entry)) → All (λ (entry : Option Entry). entry ≡ None) table → entries_of table ≡ map.empty
 entries_of-absent table absent = ap (map.from_entries {R = key_cmp}) (entries_from-absent 0 table (recursion_from_All (λ (entry : Option Entry). entry ≡ None) table absent))
 
--- of two tests that do not both pass, either may come first
+-- if two tests do not both pass, either can come first
 swapped : {X : Type 0} (a b : Bool) (x y z : X) → (a ≡ true → b ≡ true → ⊥) → cond a x (cond b y z) ≡ cond b y (cond a x z)
 swapped true true x y z not_both = absurd (not_both refl refl)
 swapped true false x y z not_both = refl
 swapped false b x y z not_both = refl
 
--- of two equal tests the first decides
+-- of two equal tests, only the first matters
 shadowed : {X : Type 0} (a : Bool) (x y z : X) → cond a x z ≡ cond a x (cond a y z)
 shadowed true x y z = refl
 shadowed false x y z = refl
 
--- a table with another entry at a place: what is found under each key
+-- what is found under each key in a table with another entry at one place
 find_set : (place i : ℕ) (table : List (Option Entry)) (entry : Entry) (key : ℕ × ℕ) → i < length table →
     map.find key_cmp key (entries_from place (set table i (Some entry))) ≡ cond (eq_by_cmp key_cmp key (key_of (place + i))) (Some entry) (map.find key_cmp key (entries_from place table))
 find_set place i [] entry key within = absurd (omega arith)
@@ -103,7 +103,7 @@ find_set place (suc i) (Some before ∷ table) entry key within =
     omega arith
     )
 
--- to put an entry at a place is to insert it under the key of the place
+-- putting an entry at a place is inserting it under the key of the place
 pub entries_of-set : (table : List (Option Entry)) (place : ℕ) (entry : Entry) → place < length table → entries_of (set table place (Some entry)) ≡ map.insert (entries_of table) (key_of place) entry
 entries_of-set table place entry within =
     map.same_map keys_total exact_keys _ _ (λ key.

@@ -1,4 +1,4 @@
--- What flags of municipalities stand for.
+-- What flags of municipalities mean.
 use Rattle.std.proofs.Common.{◌≡◌, ◌≢◌, ◌<◌, ◌≤◌, ◌+◌, ◌-◌, ◌∙◌, ◌||◌, ◌&&◌, ℕ, zero, suc, Bool, true, false, not, List, [], ◌∷◌, length, get_or, set, sym, ap, subst, refl, arith, inl, inr}
 use Rattle.std.specs.Cmp.{nat_cmp_total, tied_itself, Equal-is}
 use Rattle.std.specs.List.{All, AllByRecursion, list_any}
@@ -28,7 +28,7 @@ flagged_missed municipality (true ∷ flags) m before =
     ap (λ b. b || list_any (eq_by_cmp nat_cmp m) (flagged_from (municipality + 1) flags)) (other_number m municipality (λ is. omega arith))
     ∙ flagged_missed (municipality + 1) flags m (omega arith)
 
--- a municipality is flagged where its flag is set
+-- a municipality is flagged if and only if its flag is set
 flagged_at : (municipality i : ℕ) (flags : List Bool) → list_any (eq_by_cmp nat_cmp (municipality + i)) (flagged_from municipality flags) ≡ get_or flags i false
 flagged_at municipality i [] = refl
 flagged_at municipality zero (false ∷ flags) = flagged_missed (municipality + 1) flags (municipality + 0) (omega arith)
@@ -44,19 +44,19 @@ flagged_at municipality (suc i) (true ∷ flags) =
     ap (λ b. b || list_any (eq_by_cmp nat_cmp (municipality + suc i)) (flagged_from (municipality + 1) flags)) (other_number (municipality + suc i) municipality (λ is. omega arith))
     ∙ ap (λ m. list_any (eq_by_cmp nat_cmp m) (flagged_from (municipality + 1) flags)) next ∙ flagged_at (municipality + 1) i flags
 
--- a municipality is closed where its flag is set
+-- a municipality is closed if and only if its flag is set
 pub contains-closed_of : (flags : List Bool) (municipality : ℕ) → 1 ≤ municipality → set_of.contains (closed_of flags) municipality ≡ get_or flags (municipality - 1) false
 contains-closed_of flags municipality from_one =
     set_of.contains-from_list nat_cmp_total (flagged_from 1 flags) municipality
     ∙ subst (λ m. list_any (eq_by_cmp nat_cmp m) (flagged_from 1 flags) ≡ get_or flags (municipality - 1) false) (omega arith) (flagged_at 1 (municipality - 1) flags)
 
--- what was read at the flag of a municipality is whether it is closed
+-- the flag that was read says whether the municipality is closed
 pub read_flag : (flags : List Bool) (municipality : ℕ) (read : Bool) → 1 ≤ municipality → municipality ≤ length flags → read
     ≡ get_or flags (municipality - 1) read → read ≡ set_of.contains (closed_of flags) municipality
 read_flag flags municipality read from_one within read_is =
     get_or_read flags (municipality - 1) read (omega arith) read_is false ∙ sym (contains-closed_of flags municipality from_one)
 
--- flags of which none is set stand for the empty set
+-- if no flag is set, the set is empty
 flagged_from-unset : (municipality : ℕ) (flags : List Bool) → AllByRecursion (λ (flag : Bool). flag ≡ false) flags → flagged_from municipality flags ≡ []
 flagged_from-unset municipality [] unset = refl
 flagged_from-unset municipality (false ∷ flags) unset = flagged_from-unset (municipality + 1) flags unset.1
@@ -74,12 +74,12 @@ closed_from_one flags (suc m) is = omega arith
 none_closed : (flags : List Bool) → set_of.contains (closed_of flags) 0 ≡ false
 none_closed flags = set_of.contains-from_list nat_cmp_total (flagged_from 1 flags) 0 ∙ flagged_missed 1 flags 0 (omega arith)
 
--- what holds of 0, which is not closed, and of each flag holds of whether any municipality is closed
+-- what holds for municipality 0, which is not closed, and for each flag, holds for each municipality
 at_flag : (P : ℕ → Bool → Type 0) (flags : List Bool) (m : ℕ) → P 0 false → (1 ≤ m → P m (get_or flags (m - 1) false)) → P m (set_of.contains (closed_of flags) m)
 at_flag P flags zero none some = subst (P 0) (sym (none_closed flags)) none
 at_flag P flags (suc m) none some = let from_one : 1 ≤ suc m = omega arith in subst (P (suc m)) (sym (contains-closed_of flags (suc m) from_one)) (some from_one)
 
--- to set the flag of a municipality is to put it into the set
+-- setting the flag of a municipality is inserting it into the set
 pub closed_of-set : (flags : List Bool) (municipality : ℕ) → 1 ≤ municipality → municipality ≤ length flags
     → closed_of (set flags (municipality - 1) true) ≡ set_of.insert (closed_of flags) municipality
 closed_of-set flags municipality from_one within =
@@ -105,7 +105,7 @@ closed_of-set flags municipality from_one within =
     )
     )
 
--- to clear it is to take it out
+-- clearing the flag is removing it from the set
 pub closed_of-clear : (flags : List Bool) (municipality : ℕ) → 1 ≤ municipality → municipality ≤ length flags
     → closed_of (set flags (municipality - 1) false) ≡ set_of.remove (closed_of flags) municipality
 closed_of-clear flags municipality from_one within =

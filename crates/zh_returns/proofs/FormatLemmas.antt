@@ -6,7 +6,7 @@ use Rattle.zh_returns.specs.declared.command.Format.{Format}
 use Rattle.zh_returns.specs.Payload.{format_byte, zeros}
 use Rattle.zh_returns.proofs.ZeroLemmas.{zeros_from_all}
 
--- a format's byte with zeros after it
+-- the byte of a format, followed by zeros
 format_whole : (format : Format) (bytes : List ℕ) → length bytes ≡ 175 → list_all (λ byte. byte == 0) (drop 1 bytes) ≡ true
     → format_byte format ≡ get_or bytes 0 0 → (format_byte format ∷ zeros 174) ≡ bytes
 format_whole format [] len zero byte = absurd (omega arith)

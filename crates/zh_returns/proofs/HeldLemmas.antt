@@ -24,7 +24,7 @@ use Rattle.zh_returns.specs.Tally.{Tally, held}
 use Rattle.zh_returns.proofs.JudgementLemmas.{row_held, row_unrefused}
 use Rattle.zh_returns.proofs.BatchLemmas.{other_rows}
 
--- the entries after a row that is put or not
+-- the entries after a row that is put in or not
 abbrev put_if : Origin → Bool → map_of.FinMap key_cmp Entry → Row → map_of.FinMap key_cmp Entry
 put_if origin accepted entries row = cond accepted (map_of.insert entries (row_key row) (entry_of origin row)) entries
 
@@ -47,7 +47,7 @@ there_put origin true entries row key other =
     ∙ ap (λ b. cond b (Some (entry_of origin row)) (map_of.get entries key)) other
 there_put origin false entries row key other = refl
 
--- keys that differ from one
+-- keys that all differ from one key
 none_alike : (key : ℕ × ℕ) (keys : List (ℕ × ℕ)) → AllByRecursion (λ other. eq_by_cmp key_cmp key other ≡ false) keys → list_any (eq_by_cmp key_cmp key) keys ≡ false
 none_alike key [] all = refl
 none_alike key (other ∷ keys) all = ap (λ b. b || list_any (eq_by_cmp key_cmp key) keys) all.0 ∙ none_alike key keys all.1
@@ -58,7 +58,8 @@ one_differs key [] i row all is = absurd (cc)
 one_differs key (other ∷ rows) zero row all is = ap (λ r. eq_by_cmp key_cmp key (row_key r)) (sym (same_Some other row is)) ∙ all.0
 one_differs key (other ∷ rows) (suc i) row all is = one_differs key rows i row all.1 is
 
--- of rows with keys of their own, one that is put is held, and the key of one that is not holds what it held
+-- if no two rows have the same key, a row that is put in is held, and under the key of any other row what is held does not
+-- change
 rows_put : (origin : Origin) (p : Row → Bool) (entries : map_of.FinMap key_cmp Entry) (rows : List Row) (i : ℕ) (row : Row) → IsDistinct (eq_by_cmp key_cmp) (map row_key rows) → slice_get rows i ≡ Some row →
     map_of.get (with_rows origin entries (filter p rows)) (row_key row) ≡ cond (p row) (Some (entry_of origin row)) (map_of.get entries (row_key row))
 rows_put origin p entries [] i row distinct is = absurd (cc)
@@ -77,7 +78,7 @@ rows_put origin p entries (first ∷ rows) (suc i) row distinct is =
     there_put origin (p first) entries first (row_key row) (keys_alike.symm (row_key row) (row_key first) ∙ one_differs (row_key first) rows i
     row (IsDistinct-head (eq_by_cmp key_cmp) (row_key first) (map row_key rows) distinct) is))
 
--- a row of a batch is held after it as the row is judged
+-- what is held for a row after the batch follows from the verdict on the row
 judged_held : (tally : Tally) (desk : ℕ) (rows : List Row) (i : ℕ) (row : Row) (verdict : Verdict) → IsBatch rows → slice_get rows i ≡ Some row → judge_row tally row ≡ verdict →
     held (changed tally (commands.Batch desk rows)) row.municipality row.list ≡ cond (is_accept verdict) (Some (entry_of (origin_of (commands.Batch desk rows)) row)) (held tally row.municipality row.list)
 judged_held tally desk rows i row verdict batch is judged =
@@ -110,7 +111,7 @@ pub rows_held : (tally : Tally) (desk : ℕ) (rows : List Row) (i : ℕ) (row : 
     HasContent row (held (changed tally (commands.Batch desk rows)) row.municipality row.list)
 rows_held tally desk rows i row batch accepted is = by_verdict tally desk rows i row (judge_row tally row) batch is refl (row_unrefused tally rows i row accepted is)
 
--- a key that no row has holds what it held
+-- under a key that no row has, what is held does not change
 pub others_held : (tally : Tally) (desk : ℕ) (rows : List Row) (municipality list : ℕ) → has_key rows (municipality, list) ≡ false
     → held (changed tally (commands.Batch desk rows)) municipality list ≡ held tally municipality list
 others_held tally desk rows municipality list fresh = other_rows (origin_of (commands.Batch desk rows)) (λ r. is_accept (judge_row tally r)) tally.entries rows (municipality, list) fresh

@@ -20,7 +20,7 @@ use Rattle.zh_returns.specs.Step.{MayStand}
 use Rattle.zh_returns.specs.Tally.{Tally, held}
 use Rattle.zh_returns.proofs.VerdictLemmas.{none_refused}
 
--- a content that is not refused is for a list that stands in its municipality, and is not too much
+-- the list of a content stands in its municipality, and the votes are not too many
 pub record Passes (tally : Tally) (municipality list : ℕ) (content : Option ℕ) : Type 0 where
   pub place : misplaced tally.canton municipality list ≡ None
   pub enough : too_many content ≡ false
@@ -38,13 +38,13 @@ passes tally municipality list number content is =
     let t = tested (misplaced tally.canton municipality list) (too_many content) (set.contains tally.closed municipality) (against (held tally municipality list) number content) is in
     record { place = t.0; enough = t.1 }
 
--- so a row that is not refused may stand in the count
+-- so a row that is not refused may be put into the count
 pub row_may_stand : (tally : Tally) (row : Row) → 1 ≤ row.number → is_refusal (judge_row tally row) ≡ false → MayStand tally.canton row
 row_may_stand tally row number is =
     let p = passes tally row.municipality row.list row.number (Some row.votes) is in
     record { place = p.place; number = number; votes = ltb-false 1000000000 row.votes p.enough }
 
--- what passes is the verdict after the tests
+-- a verdict that is not a refusal is the one after the tests
 reached : (place : Option Misplaced) (many closed : Bool) (last verdict : Verdict) → is_refusal verdict ≡ false
     → unless_misplaced place (cond many (Refused reasons.Votes) (cond closed (Refused reasons.Closed) last)) ≡ verdict → last ≡ verdict
 reached (Some misplaced) many closed last verdict fine is = absurd (true≢false (ap is_refusal is ∙ fine))
@@ -63,7 +63,7 @@ accepted_from_one tally municipality list number content is =
     reached (misplaced tally.canton municipality list) (too_many content) (set.contains tally.closed municipality) (against (held tally municipality list) number content) Accept refl is
     )
 
--- the same are a number and votes that are held
+-- this number and these votes are already held
 pub record IsHeld (found : Option Entry) (number votes : ℕ) : Type 0 where
   pub entry : Entry
   pub is : found ≡ Some entry
@@ -92,7 +92,7 @@ against_same (Some entry) number votes is =
     let t = same_tests (nat_lt number entry.number) (number == entry.number) (same_content (Some votes) entry.votes) (number == entry.number + 1) is in
     record { entry = entry; is = refl; number_is = sym (eqb-true number entry.number t.0); votes_are = same_votes votes entry.votes t.1 }
 
--- so a row judged the same is held already
+-- so a row that is judged the same is already held
 pub row_held : (tally : Tally) (row : Row) → judge_row tally row ≡ Same → IsHeld (held tally row.municipality row.list) row.number row.votes
 row_held tally row is =
     against_same (held tally row.municipality row.list) row.number row.votes (
@@ -108,7 +108,7 @@ row_unrefused tally rows i row accepted is =
     ∙ ap is_refusal (sym (get_or-map (judge_row tally) rows i row Accept within))
     ∙ All-get_or (λ v. is_refusal v ≡ false) (map (judge_row tally) rows) i Accept (omega (arith, length-map rows (judge_row tally))) (none_refused (map (judge_row tally) rows) accepted)
 
--- so its rows may stand in the count
+-- so its rows may be put into the count
 pub rows_may_stand : (tally : Tally) (rows : List Row) (i : ℕ) (row : Row) → IsBatch rows → of_all (map (judge_row tally) rows) ≡ Accept → slice_get rows i ≡ Some row → MayStand tally.canton row
 rows_may_stand tally rows i row batch accepted is =
     let here = get_or_from_slice_get rows i row row is in

@@ -12,7 +12,7 @@ use Rattle.std.proofs.lemmas.Map.Keys.{apart_from_distinct}
 use Rattle.std.proofs.lemmas.Map.Lookups.{CmpEqualImpliesEq, exact_unsigned, exact_pairs}
 use Rattle.zh_returns.specs.Keys.{key_cmp}
 
--- keys that compare alike are one
+-- keys that compare as equal are equal
 pub exact_keys : CmpEqualImpliesEq key_cmp
 exact_keys = exact_pairs nat_cmp nat_cmp exact_unsigned exact_unsigned
 
@@ -23,11 +23,11 @@ keys_total = then_total (on_total (λ (key : ℕ × ℕ). key.0) nat_cmp_total) 
 pub same_key : (key : ℕ × ℕ) → eq_by_cmp key_cmp key key ≡ true
 same_key key = ap is_eq (tied_itself keys_total key)
 
--- keys that pass as equal are equal
+-- keys that pass the test of equality are equal
 pub keys_equal : (a b : ℕ × ℕ) → eq_by_cmp key_cmp a b ≡ true → a ≡ b
 keys_equal a b is = exact_keys a b ((Equal-is (key_cmp a b)).0 is)
 
--- two keys pass as equal where both their parts are
+-- two keys pass the test of equality if and only if both their parts do
 pub key_test : (m n municipality list : ℕ) → eq_by_cmp key_cmp (m, n) (municipality, list) ≡ (m == municipality && n == list)
 key_test m n municipality list = elim (cases_eq m municipality) [
   | inl same_m ↦ elim (cases_eq n list) [
@@ -44,11 +44,11 @@ key_test m n municipality list = elim (cases_eq m municipality) [
       ∙ sym (and_left (m == municipality) (n == list) (ne_eqb m municipality other))
 ]
 
--- as keys pass as equal, they are sorted into kinds
+-- the test of equality is an equivalence relation
 pub keys_alike : IsEquivalence (eq_by_cmp key_cmp)
 keys_alike = eq_by_cmp_equiv keys_total
 
--- where no two keys are equal, none is among those before it
+-- if no two keys are equal, a key is not among those before it
 pub fresh_from_distinct : (keys : List (ℕ × ℕ)) (i : ℕ) (d : ℕ × ℕ) → IsDistinct (eq_by_cmp key_cmp) keys → i < length keys → list_any (eq_by_cmp key_cmp (get_or keys i d)) (take i keys) ≡ false
 fresh_from_distinct keys i d distinct within =
     let short : length (take i keys) ≡ i = length-take-le i keys (omega arith) in

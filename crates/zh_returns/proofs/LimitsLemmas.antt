@@ -19,7 +19,7 @@ use Rattle.zh_returns.specs.Step.{entry_of}
 use Rattle.zh_returns.specs.Tally.{Tally, empty}
 use Rattle.zh_returns.proofs.KeyLemmas.{keys_total, keys_equal}
 
--- any fact of what stands under a key holds of a map without entries
+-- a map without entries meets any condition on what is held under a key
 none_held : (P : Entry → Type 0) (key : ℕ × ℕ) → IfSome (map.get (map.empty {R = key_cmp}) key) P
 none_held P key = subst (λ held. IfSome held P) (sym (map.get-empty key_cmp key)) tt
 
@@ -33,7 +33,7 @@ IsTally-empty canton limits = record {
   accepted = lit< tt;
 }
 
--- what holds of each entry and of a new one holds of each with the new one put in
+-- what holds for each entry, and for a new one, holds for each after the new one was put in
 each_with : (P : ℕ × ℕ → Entry → Type 0) (entries : map.FinMap key_cmp Entry) (at : ℕ × ℕ) (entry : Entry) → P at entry →
     (key : ℕ × ℕ) → IfSome (map.get entries key) (P key) → IfSome (map.get (map.insert entries at entry) key) (P key)
 each_with P entries at entry new key old =

@@ -7,20 +7,20 @@ use Rattle.std.proofs.lemmas.Nat.Bits.{and_pow, bit_at-lt, bit_at_set_same, bit_
 use Rattle.std.proofs.lemmas.List.{get_or-set_same, get_or-set_other}
 use Rattle.zh_returns.specs.KeySet.{is_marked}
 
--- a bit times a number is 0 where the bit is
+-- a bit times a positive number is 0 if and only if the bit is 0
 bit_test : (bit x : ℕ) → bit < 2 → 0 < x → nat_eq (bit * x) 0 ≡ not (bit == 1)
 bit_test zero x small some = let e : 0 * x ≡ 0 = omega arith in ap (λ (n : ℕ). nat_eq n 0) e
 bit_test (suc zero) x small some = ne_eqb (1 * x) 0 (λ is. omega arith)
 bit_test (suc (suc n)) x small some = absurd (omega arith)
 
--- a byte has nothing in common with another of one bit where it has not that bit
+-- a byte has no bit in common with a one-bit mask if and only if this bit is not set
 pub mark_fresh : (byte bit : ℕ) → bit < 8 → nat_eq (bit_and byte (1 * 2 ^ bit % 256)) 0 ≡ not (byte / 2 ^ bit % 2 == 1)
 mark_fresh byte bit small =
     ap (λ (mask : ℕ). nat_eq (bit_and byte mask) 0) (one_shl bit 8 small)
     ∙ ap (λ (n : ℕ). nat_eq n 0) (and_pow byte bit)
     ∙ bit_test (bit_at byte bit) (2 ^ bit) (bit_at-lt byte bit) (pow_pos bit)
 
--- a place is marked where its bit is set
+-- after a place was marked, its bit is set and the other bits are unchanged
 pub mark_set : (marks : List ℕ) (place p : ℕ) → place < 8 * length marks →
     is_marked (set marks (place / 8) (bit_or (get_or marks (place / 8) 0) (1 * 2 ^ (place % 8) % 256))) p ≡ (p == place || is_marked marks p)
 mark_set marks place p within =

@@ -1,4 +1,4 @@
--- Numbers in a row.
+-- Consecutive numbers.
 use Rattle.std.proofs.Common.{◌≡◌, ◌<◌, ◌+◌, ◌∙◌, ℕ, zero, suc, length, get_or, refl, arith}
 use Rattle.zh_returns.specs.Payload.{numbers}
 

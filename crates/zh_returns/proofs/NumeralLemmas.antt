@@ -25,7 +25,7 @@ pub eight_read : (bytes : List ℕ) (n : ℕ) → 8 ≤ length bytes → ((i : �
 eight_read (a ∷ b ∷ c ∷ d ∷ e ∷ f ∷ g ∷ h ∷ bytes) n room fit is = be_bytes_8 (a ∷ b ∷ c ∷ d ∷ e ∷ f ∷ g ∷ h ∷ []) n refl (first_fit 8 (a ∷ b ∷ c ∷ d ∷ e ∷ f ∷ g ∷ h ∷ bytes) fit) (is ∙ omega arith)
 eight_read _ n room fit is = absurd (omega arith)
 
--- eleven bytes
+-- eleven bytes, split into the fields of a row
 eleven : (bytes : List ℕ) → length bytes ≡ 11 → take 2 bytes ++ (get_or bytes 2 0 ∷ (take 4 (drop 3 bytes) ++ take 4 (drop 7 bytes))) ≡ bytes
 eleven (a ∷ b ∷ c ∷ d ∷ e ∷ f ∷ g ∷ h ∷ i ∷ j ∷ k ∷ []) whole = refl
 eleven _ whole = absurd (omega arith)

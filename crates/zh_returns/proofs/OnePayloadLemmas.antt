@@ -53,7 +53,7 @@ has_place m l = elim (cases_lt 0 m) [
   ]
 ]
 
--- under a key without a place nothing is held
+-- nothing is held under a key without a place
 nothing_outside : (canton : Canton) (m l : ℕ) (h : Option Entry) → IsCanton canton → IfSome h (λ _. stands canton (constituency_of canton m) l ≡ true) →
     IfSome h (λ _. has_municipality canton m ≡ true) → (HasPlace m l → ⊥) → h ≡ None
 nothing_outside canton m l None limits list there outside = refl
@@ -67,7 +67,7 @@ nothing_outside canton m l (Some entry) limits list there outside =
 none_held : (tally : Tally) (m l : ℕ) → IsTally tally → (HasPlace m l → ⊥) → held tally m l ≡ None
 none_held tally m l limits outside = nothing_outside tally.canton m l (held tally m l) limits.canton (limits.lists m l) (limits.municipalities m l) outside
 
--- what the bytes have at the place of a key is what is held under the key
+-- the bytes at the place of a key spell what is held under the key
 spelled_at : (tally : Tally) (m l : ℕ) → HasPlace m l → take 16 (drop (16 * place_of m l) (flat_map entry_spelling (table_of tally 512))) ≡ entry_spelling (held tally m l)
 spelled_at tally m l place =
     let from = place.from_one in
@@ -106,7 +106,7 @@ same_closed a b limits_a limits_b same (suc m) =
       | inr outside ↦ open_outside a (suc m) limits_a (λ is. omega arith) ∙ sym (open_outside b (suc m) limits_b (λ is. omega arith))
     ]
 
--- the bytes of two formats are not the same
+-- the bytes of different formats are different
 pub format_once : (f g : Format) → (format_byte f ∷ zeros 174) ≡ (format_byte g ∷ zeros 174) → f ≡ g
 format_once One One same = refl
 format_once One Two same = absurd (let first = ap (λ (bytes : List ℕ). get_or bytes 0 0) same in omega arith)
@@ -138,7 +138,7 @@ tally_once f g a b limits_a limits_b canton same =
     in
     λ i. record { canton = canton i; entries = entries i; closed = closed i; accepted = accepted i }
 
--- format Two can say a count within its limits
+-- format Two can name the origins of every count within its limits
 pub said_in_two : (tally : Tally) → IsTally tally → IsSaidIn Two tally
 said_in_two tally limits m l = if_weaker IsEntry (λ entry. IsOriginOf Two entry.origin) (held tally m l) (λ entry is. is.origin) (limits.entries m l)
 

@@ -1,4 +1,4 @@
--- Where entries come from, and what formats can say of it.
+-- Where entries come from, and which origins a format can name.
 use Rattle.std.proofs.Common.{◌≡◌, List, ℕ, get_or, ap, arith}
 use Rattle.zh_returns.specs.declared.command.Command.{Command}
 use Rattle.zh_returns.specs.declared.command.Command.TheVariants as commands
@@ -19,12 +19,12 @@ pub no_desk_said : (format : Format) → IsOriginOf format no_desk
 no_desk_said One = record { desk = omega arith }
 no_desk_said Two = record { desk = omega arith }
 
--- what a format can say format Two can say
+-- format Two can name every origin that some format can
 pub origin_within : (format : Format) (origin : Origin) → IsOriginOf format origin → IsOriginOf Two origin
 origin_within One origin is = record { desk = let none = is.desk in omega arith }
 origin_within Two origin is = is
 
--- so can it say where a command comes from
+-- format Two can name the origin of a command
 pub origin_named : (command : Command) → HasNumbers command → IsOriginOf Two (origin_of command)
 origin_named (commands.Return desk row) numbers = record { desk = numbers.0 }
 origin_named (commands.Withdraw desk municipality list number) numbers = record { desk = numbers.0 }

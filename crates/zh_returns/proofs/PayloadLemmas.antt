@@ -47,7 +47,7 @@ pub length-format : (format : Format) → length (format_byte format ∷ zeros 1
 length-format One = let e = length-zeros 174 in omega arith
 length-format Two = let e = length-zeros 174 in omega arith
 
--- what stands in the parts of bytes that are those of a count
+-- the parts of bytes that are those of a count
 pub record Parts (format : Format) (tally : Tally) (bytes : List ℕ) : Type 0 where
   pub closed : take 64 (drop 8 bytes) ≡ map (closed_byte tally) (numbers 0 64)
   pub says : take 175 (drop 64 (drop 8 bytes)) ≡ (format_byte format ∷ zeros 174)
@@ -71,7 +71,7 @@ parts format tally bytes spelled =
       whole = ap length (sym spelled) ∙ omega (arith, length-append b (c ++ d), length-append c d);
     }
 
--- parts that are those of a count are all of the bytes
+-- bytes whose parts are those of a count are the bytes of the count
 pub parts_read : (format : Format) (tally : Tally) (bytes : List ℕ) → to_be_bytes w64 tally.accepted ≡ take 8 bytes → map (closed_byte tally) (numbers 0 64) ≡ take 64 (drop 8 bytes) →
     (format_byte format ∷ zeros 174) ≡ take 175 (drop 64 (drop 8 bytes)) → flat_map entry_spelling (table_of tally 512) ≡ drop 175 (drop 64 (drop 8 bytes)) → payload_spelling format tally ≡ bytes
 parts_read format tally bytes ea eb ec ed =
@@ -87,11 +87,11 @@ parts_read format tally bytes ea eb ec ed =
 is_there : (canton : Canton) (m : ℕ) → 1 ≤ m → m ≤ length canton.municipalities → has_municipality canton m ≡ true
 is_there canton m from_one within = search (rules, tests)
 
--- an entry within the limits of a format is one within those of format Two
+-- an entry within the limits of a format is within those of format Two
 entry_within : (format : Format) (entry : Entry) → IsEntryOf format entry → IsEntry entry
 entry_within format entry is = record { origin = origin_within format entry.origin is.origin; number = is.number; votes = is.votes }
 
--- tables within their limits stand for a count within its limits
+-- the count in tables within their limits is within its limits
 pub tables_within : (format : Format) (canton : Canton) (table : List (Option Entry)) (flags : List Bool) (accepted : ℕ) → IsCanton canton → IsTable format canton table →
     list_all not (drop (length canton.municipalities) flags) ≡ true → accepted < 2 ^ 64 → IsTally (tally_from canton table flags accepted)
 tables_within format canton table flags accepted limits held none small = record {
@@ -122,7 +122,7 @@ tables_within format canton table flags accepted limits held none small = record
               ))
         ]
 
--- and the format can say it
+-- the format can name the origins of its entries
 pub tables_said : (format : Format) (canton : Canton) (table : List (Option Entry)) (flags : List Bool) (accepted : ℕ)
     → IsTable format canton table → IsSaidIn format (tally_from canton table flags accepted)
 tables_said format canton table flags accepted held m l =

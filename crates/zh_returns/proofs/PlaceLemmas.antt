@@ -5,14 +5,14 @@ use Rattle.zh_returns.specs.Keys.{key_cmp}
 use Rattle.zh_returns.proofs.KeyLemmas.{keys_equal}
 use Rattle.zh_returns.specs.Tables.{key_of, place_of}
 
--- two places have two keys
+-- different places have different keys
 pub places_equal : (a b : ℕ) → key_of a ≡ key_of b → a ≡ b
 places_equal a b is =
     let municipalities : a / 32 + 1 ≡ b / 32 + 1 = ap (λ (key : ℕ × ℕ). key.0) is in
     let lists : a % 32 + 1 ≡ b % 32 + 1 = ap (λ (key : ℕ × ℕ). key.1) is in
     omega arith
 
--- the key of another place is another key
+-- the keys of different places do not pass the test of equality
 pub other_key : (a b : ℕ) → a ≢ b → eq_by_cmp key_cmp (key_of a) (key_of b) ≡ false
 other_key a b ne =
     elim (eq_by_cmp key_cmp (key_of a) (key_of b)) as (λ v. eq_by_cmp key_cmp (key_of a) (key_of b) ≡ v → v ≡ false) [

@@ -1,4 +1,4 @@
--- A row after others.
+-- A row that is written after others.
 use Rattle.std.proofs.Common.{◌≡◌, ◌<◌, ◌≤◌, ◌+◌, ◌-◌, ◌*◌, ◌∙◌, ℕ, false, List, [], ◌∷◌, ◌++◌, length, map, take, drop, sym, ap, subst, refl, arith, append_assoc, length-append}
 use Rattle.std.specs.Prelude.{All}
 use Rattle.std.specs.List.{flat_map, IsDistinct}
@@ -17,7 +17,7 @@ use Rattle.zh_returns.proofs.RowBytesLemmas.{rows_wide, rows_back, length-rows_f
 use Rattle.zh_returns.proofs.BlockLemmas.{length-blocks}
 use Rattle.zh_returns.proofs.KeyLemmas.{keys_alike}
 
--- at first there is none
+-- at first there are no rows
 pub none_pushed : (bytes : List ℕ) → rows_from 0 bytes ≡ []
 unfolding rows_from
 none_pushed bytes = refl
@@ -30,13 +30,13 @@ none_written bytes = record {
   rows = record { most = omega arith; speakable = All-nil IsSpeakableRow; keys = tt };
 }
 
--- the bytes with those of a row put after the first rows
+-- the bytes after a row was written behind the first rows
 pub record IsPushed (bytes : List ℕ) (count : ℕ) (row : Row) (after : List ℕ) : Type 0 where
   pub rows : rows_from (count + 1) after ≡ rows_from count bytes ++ (row ∷ [])
   pub room : length after ≡ length bytes
   pub written : AreWritten after (count + 1)
 
--- they are spelled by the rows and the row
+-- these bytes spell the rows and the new row
 spelled : (bytes : List ℕ) (count width : ℕ) (row : Row) (new : List ℕ) → AreWritten bytes count → new ≡ row_spelling row →
     put_mid (11 * count) width bytes new ≡ flat_map row_spelling (rows_from count bytes ++ (row ∷ [])) ++ post_of (11 * count) width bytes
 spelled bytes count width row new before is =

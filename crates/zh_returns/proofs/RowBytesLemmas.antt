@@ -21,7 +21,7 @@ rows_wide = record { at = λ row. refl }
 abbrev pub batch_spelling : List Row → List ℕ
 batch_spelling rows = to_be_bytes w16 (length rows) ++ flat_map row_spelling rows
 
--- a batch takes two bytes and its rows
+-- a batch takes two bytes and those of its rows
 pub length-batch : (rows : List Row) → length (batch_spelling rows) ≡ 2 + 11 * length rows
 length-batch rows = let e = length-blocks row_spelling 11 rows_wide rows in omega arith
 
@@ -37,7 +37,7 @@ row_back row rest fits =
     ∙ ap (λ (n : ℕ). row_with row.municipality row.list n votes) (from_be_bytes-to_be_bytes_4 row.number fits.number.1)
     ∙ ap (λ (v : ℕ). row_with row.municipality row.list row.number v) (from_be_bytes-to_be_bytes_4 row.votes fits.votes)
 
--- so are rows
+-- rows are read back from their bytes
 pub rows_back : (rows : List Row) (rest : List ℕ) → All IsSpeakableRow rows → rows_from (length rows) (flat_map row_spelling rows ++ rest) ≡ rows
 unfolding rows_from
 rows_back [] rest all = refl
@@ -52,7 +52,7 @@ unfolding rows_from
 length-rows_from zero bytes = refl
 length-rows_from (suc n) bytes = let e = length-rows_from n (drop 11 bytes) in omega arith
 
--- eleven bytes are those of the row that they stand for
+-- eleven bytes are those of the row that they spell
 row_spelled : (bytes : List ℕ) → ((i : ℕ) → get_or bytes i 0 < 256) → 11 ≤ length bytes → row_spelling (row_from bytes) ≡ take 11 bytes
 row_spelled (a ∷ b ∷ c ∷ d ∷ e ∷ f ∷ g ∷ h ∷ i ∷ j ∷ k ∷ rest) fit room =
     let two = a ∷ b ∷ [] in
@@ -66,7 +66,7 @@ row_spelled (a ∷ b ∷ c ∷ d ∷ e ∷ f ∷ g ∷ h ∷ i ∷ j ∷ k ∷ r
     ∙ ap (λ (v : List ℕ). two ++ (c ∷ (number ++ v))) (be_bytes_4 votes (from_be_bytes w32 votes) refl last refl)
 row_spelled _ fit room = absurd (omega arith)
 
--- the bytes of the rows of bytes are these bytes
+-- the rows that bytes spell have these bytes
 pub rows_spelled : (n : ℕ) (bytes : List ℕ) → ((i : ℕ) → get_or bytes i 0 < 256) → 11 * n ≤ length bytes → flat_map row_spelling (rows_from n bytes) ≡ take (11 * n) bytes
 unfolding rows_from
 rows_spelled zero bytes fit room = refl
@@ -82,7 +82,7 @@ row_first : (bytes : List ℕ) → row_from bytes ≡ row_from (take 11 bytes)
 row_first (a ∷ b ∷ c ∷ d ∷ e ∷ f ∷ g ∷ h ∷ i ∷ j ∷ k ∷ rest) = refl
 row_first _ = refl
 
--- the row at a place is that of its eleven bytes
+-- the row at a place is spelled by the eleven bytes there
 pub row_at : (n : ℕ) (bytes : List ℕ) (i : ℕ) (d : Row) → i < n → get_or (rows_from n bytes) i d ≡ row_from (take 11 (drop (11 * i) bytes))
 unfolding rows_from
 row_at zero bytes i d within = absurd (omega arith)
@@ -94,7 +94,7 @@ row_at (suc n) bytes (suc i) d within =
     row_at n (drop 11 bytes) i d (omega arith)
     ∙ ap (λ (rest : List ℕ). row_from (take 11 rest)) (drop-drop (11 * i) 11 bytes ∙ ap (λ (m : ℕ). drop m bytes) next)
 
--- the same of a row that was read there
+-- the same for a row that was read there
 pub row_read_at : (bytes : List ℕ) (i : ℕ) (row d : Row) → i < length bytes / 11 → row ≡ row_from (take (11 * i + 11 - 11 * i) (drop (11 * i) bytes)) → get_or (rows_in bytes) i d ≡ row
 row_read_at bytes i row d within is =
     let width : 11 * i + 11 - 11 * i ≡ 11 = omega arith in

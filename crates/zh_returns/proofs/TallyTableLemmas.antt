@@ -27,7 +27,7 @@ pub length-table_of : (tally : Tally) (n : ℕ) → length (table_of tally n) �
 length-table_of tally n =
     length-blocks (λ (municipality : ℕ). map (held tally municipality) (numbers 1 32)) 32 (row_wide tally) (numbers 1 n) ∙ ap (λ (m : ℕ). 32 * m) (length-numbers 1 n)
 
--- at a place stands what is held under the key of the place
+-- a place has what is held under its key
 pub at_table_of : (tally : Tally) (n place : ℕ) → place < 32 * n → get_or (table_of tally n) place None ≡ map_of.get tally.entries (key_of place)
 at_table_of tally n place within =
     let row : ℕ → List (Option Entry) = λ municipality. map (held tally municipality) (numbers 1 32) in
@@ -46,14 +46,14 @@ at_table_of tally n place within =
     ∙ ap (λ (a : ℕ). held tally a (1 + l)) first
     ∙ ap (λ (a : ℕ). held tally (m + 1) a) second
 
--- the table that a count is kept in is its table
+-- the table in which a count is stored is its table
 pub table_is : (tally : Tally) (table : List (Option Entry)) (n : ℕ) → tally.entries ≡ entries_of table → length table ≡ 32 * n → table ≡ table_of tally n
 table_is tally table n entries whole =
     ext_get_or None table (table_of tally n) (whole ∙ sym (length-table_of tally n)) (λ place within.
     sym (get-entries_of table place) ∙ ap (λ e. map_of.get e (key_of place)) (sym entries) ∙ sym (at_table_of tally n place (omega arith))
     )
 
--- what holds of each place holds of each key
+-- what holds for each place holds for each key
 each_found : (P : ℕ × ℕ → Entry → Type 0) (place : ℕ) (table : List (Option Entry)) (key : ℕ × ℕ)
     → ((i : ℕ) → IfSome (get_or table i None) (P (key_of (place + i)))) → IfSome (map_of.find key_cmp key (entries_from place table)) (P key)
 each_found P place [] key each = tt
@@ -76,7 +76,7 @@ each_key P table each key =
     each_found P 0 table key (λ i. subst (λ (at : ℕ). IfSome (get_or table i None) (P (key_of at))) (omega arith) (each i))
     )
 
--- what implies a fact of an entry implies it of what is held
+-- what is held meets every condition that follows from one that it meets
 pub if_weaker : (P Q : Entry → Type 0) (h : Option Entry) → ((entry : Entry) → P entry → Q entry) → IfSome h P → IfSome h Q
 if_weaker P Q None weaker is = tt
 if_weaker P Q (Some entry) weaker is = weaker entry is

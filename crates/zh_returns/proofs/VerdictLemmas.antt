@@ -14,18 +14,18 @@ use Rattle.zh_returns.specs.declared.judgement.Verdict.{Verdict}
 use Rattle.zh_returns.specs.declared.judgement.Verdict.TheVariants.{Accept, Same, Refused}
 use Rattle.zh_returns.specs.Judgement.{is_refusal, is_accept, of_all}
 
--- the rows up to one that was read, and this one
+-- the rows up to the one that was read, with this one
 pub rows_more : (rows : List Row) (i : ℕ) (row : Row) → slice_get rows i ≡ Some row → take (i + 1) rows ≡ take i rows ++ (row ∷ [])
 rows_more rows i row is =
     take_more rows i row (slice_get_within rows i row is) ∙ ap (λ (r : Row). take i rows ++ (r ∷ [])) (get_or_from_slice_get rows i row row is)
 
--- the verdicts on them
+-- the verdicts on these rows
 verdicts_more : (f : Row → Verdict) (rows : List Row) (i : ℕ) (row : Row) (verdict : Verdict) → slice_get rows i ≡ Some row → verdict ≡ f row →
     map f (take (i + 1) rows) ≡ map f (take i rows) ++ (verdict ∷ [])
 verdicts_more f rows i row verdict is judged =
     ap (map f) (rows_more rows i row is) ∙ map-append f (take i rows) (row ∷ []) ∙ ap (λ (v : Verdict). map f (take i rows) ++ (v ∷ [])) (sym judged)
 
--- no refusal among them, where there was none before and this is none
+-- there is no refusal among them, if there was none before and this is none
 pub unrefused_more : (f : Row → Verdict) (rows : List Row) (i : ℕ) (row : Row) (verdict : Verdict) → slice_get rows i ≡ Some row → verdict ≡ f row →
     is_refusal verdict ≡ false → find is_refusal (map f (take i rows)) ≡ None → find is_refusal (map f (take (i + 1) rows)) ≡ None
 unrefused_more f rows i row verdict is judged fine none =
@@ -70,6 +70,6 @@ default_passes : (b : Bool) → is_refusal (cond b Accept Same) ≡ false
 default_passes true = refl
 default_passes false = refl
 
--- where a batch is accepted no row is refused
+-- if a batch is accepted, no row is refused
 pub none_refused : (verdicts : List Verdict) → of_all verdicts ≡ Accept → All (λ v. is_refusal v ≡ false) verdicts
 none_refused verdicts accepted = found_refuses verdicts (cond (list_any is_accept verdicts) Accept Same) (default_passes (list_any is_accept verdicts)) (ap is_refusal accepted)

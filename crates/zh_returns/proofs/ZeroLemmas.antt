@@ -29,7 +29,7 @@ unfolding zeros
 all_zeros zero = refl
 all_zeros (suc n) = all_zeros n
 
--- four of them
+-- four zeros
 pub four_zeros : (bytes : List ℕ) → length bytes ≡ 4 → list_all (λ byte. byte == 0) bytes ≡ true → bytes ≡ 0 ∷ 0 ∷ 0 ∷ 0 ∷ []
 unfolding zeros
 four_zeros bytes len all = zeros_from_all bytes all ∙ ap zeros len

@@ -11,7 +11,7 @@ use Rattle.zh_returns.specs.contracts.entry.Entry as entry
 use Rattle.zh_returns.specs.Keys.{key_cmp}
 use Rattle.zh_returns.specs.Tally.{Tally}
 
--- a tally is stored as its fields, in pairs
+-- a tally is coded as its fields, in pairs
 abbrev pub tally_code : Coded Tally
 tally_code =
     code_by ((Canton × map.FinMap key_cmp Entry) × (set.FinSet nat_cmp × ℕ))

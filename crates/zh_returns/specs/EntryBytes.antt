@@ -5,7 +5,7 @@ use Rattle.zh_returns.specs.declared.entry.Entry.{Entry}
 use Rattle.zh_returns.specs.declared.entry.EntryFields.{EntryFields}
 use Rattle.zh_returns.specs.Origin.{no_desk, origin_spelling}
 
--- the state, where the entry came from in three bytes, the replacement number, the votes, four zero bytes
+-- the state, the origin in three bytes, the replacement number, the votes, and four zero bytes
 abbrev pub fields_spelling : EntryFields → List ℕ
 fields_spelling fields = fields.state ∷ (origin_spelling fields.origin ++ (to_be_bytes w32 fields.number
     ++ (to_be_bytes w32 fields.votes ++ (0 ∷ 0 ∷ 0 ∷ 0 ∷ []))))

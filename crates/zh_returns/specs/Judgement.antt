@@ -17,7 +17,7 @@ use Rattle.zh_returns.specs.declared.judgement.Reason.TheVariants as reasons
 use Rattle.zh_returns.specs.Limits.{most_votes}
 use Rattle.zh_returns.specs.Tally.{Tally, held}
 
--- whether two contents are equal: votes, or none for a withdrawn list
+-- whether two contents are equal: votes, or None for a withdrawn list
 abbrev pub same_content : Option ℕ → Option ℕ → Bool
 same_content None None = true
 same_content None (Some w) = false
@@ -29,7 +29,7 @@ abbrev pub too_many : Option ℕ → Bool
 too_many None = false
 too_many (Some votes) = nat_lt most_votes votes
 
--- a content under a replacement number, against what is held under its key
+-- the verdict on a content with a replacement number, given what is held under its key
 abbrev pub against : Option Entry → ℕ → Option ℕ → Verdict
 against None number content = if number == 1 then Accept else Refused reasons.Gap
 against (Some entry) number content =
@@ -38,17 +38,17 @@ against (Some entry) number content =
     else if number == entry.number + 1 then Accept
     else Refused reasons.Gap
 
--- the reason where a list does not stand in a municipality
+-- the reason if a list does not stand in a municipality
 abbrev pub reason_of : Misplaced → Reason
 reason_of places.Municipality = reasons.Municipality
 reason_of places.List = reasons.List
 
--- that reason, or else this verdict
+-- that reason if there is one, and otherwise this verdict
 abbrev pub unless_misplaced : Option Misplaced → Verdict → Verdict
 unless_misplaced (Some misplaced) verdict = Refused (reason_of misplaced)
 unless_misplaced None verdict = verdict
 
--- a content for a key under a replacement number
+-- the verdict on a content for a key, with a replacement number
 abbrev pub judge_content : Tally → ℕ → ℕ → ℕ → Option ℕ → Verdict
 judge_content tally municipality list number content =
     unless_misplaced (misplaced tally.canton municipality list) (
@@ -57,18 +57,18 @@ judge_content tally municipality list number content =
     else against (held tally municipality list) number content
     )
 
--- a return
+-- the verdict on a return
 abbrev pub judge_row : Tally → Row → Verdict
 judge_row tally row = judge_content tally row.municipality row.list row.number (Some row.votes)
 
--- closing a municipality
+-- the verdict on closing a municipality
 abbrev pub judge_close : Tally → ℕ → Verdict
 judge_close tally municipality =
     if not (has_municipality tally.canton municipality) then Refused reasons.Municipality
     else if set.contains tally.closed municipality then Same
     else Accept
 
--- opening it again
+-- the verdict on opening it again
 abbrev pub judge_reopen : Tally → ℕ → Verdict
 judge_reopen tally municipality =
     if not (has_municipality tally.canton municipality) then Refused reasons.Municipality
@@ -85,11 +85,12 @@ is_accept Accept = true
 is_accept Same = false
 is_accept (Refused reason) = false
 
--- the verdict on all rows by the verdicts on each: the first refusal, where there is one; else it is enough that one is accepted
+-- the verdict on a batch, from those on its rows: the first refusal, if there is one; otherwise, accepted if some row is
+-- accepted
 abbrev pub of_all : List Verdict → Verdict
 of_all verdicts = unwrap_or (find is_refusal verdicts) (if list_any is_accept verdicts then Accept else Same)
 
--- which desk a command comes from is not looked at; of a batch each row is judged against the count before it
+-- the verdict on a command; its desk makes no difference; each row of a batch is judged against the count before the batch
 abbrev pub judge : Tally → Command → Verdict
 judge tally (commands.Return desk row) = judge_row tally row
 judge tally (commands.Withdraw desk municipality list number) = judge_content tally municipality list number None

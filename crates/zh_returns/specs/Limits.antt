@@ -8,25 +8,26 @@ use Rattle.zh_returns.specs.declared.entry.Entry.{Entry}
 use Rattle.zh_returns.specs.Origin.{IsOriginOf}
 use Rattle.zh_returns.specs.Tally.{Tally, held}
 
--- the most votes of a return
+-- the greatest number of votes of a return
 abbrev pub most_votes : ℕ
 most_votes = 1000000000
 
--- an origin that the format can say, a replacement number from 1, and no more votes than a return may have
+-- an origin that the format can name, a replacement number from 1 on, and no more votes than a return may have
 pub record IsEntryOf (format : Format) (entry : Entry) : Type 0 where
   pub origin : IsOriginOf format entry.origin
   pub number : (1 ≤ entry.number) × (entry.number < 2 ^ 32)
   pub votes : IfSome entry.votes (λ votes. votes ≤ most_votes)
 
--- the same of the format that is written
+-- the same for the format that is written
 abbrev pub IsEntry : Entry → Type 0
 IsEntry = IsEntryOf Two
 
--- a count whose entries have origins that the format can say
+-- a count whose entries have origins that the format can name
 abbrev pub IsSaidIn : Format → Tally → Type 0
 IsSaidIn format tally = (municipality list : ℕ) → IfSome (held tally municipality list) (λ entry. IsOriginOf format entry.origin)
 
--- entries within their limits, only of lists that stand in municipalities of the set-up; closed are only municipalities of the set-up
+-- the entries are within their limits, and their lists stand in municipalities of the set-up; the closed municipalities are in
+-- the set-up
 pub record IsTally (tally : Tally) : Type 0 where
   pub canton : IsCanton tally.canton
   pub entries : (municipality list : ℕ) → IfSome (held tally municipality list) (IsEntryOf Two)

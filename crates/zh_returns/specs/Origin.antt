@@ -6,11 +6,11 @@ use Rattle.zh_returns.specs.declared.command.Command.TheVariants as commands
 use Rattle.zh_returns.specs.declared.command.Format.{Format}
 use Rattle.zh_returns.specs.declared.entry.Origin.{Origin}
 
--- no desk, or none that is known
+-- no desk, or a desk that is not known
 abbrev pub no_desk : Origin
 no_desk = record { desk = 0 }
 
--- where what a command puts comes from
+-- the origin of the entries that a command puts into the count
 abbrev pub origin_of : Command → Origin
 origin_of (commands.Return desk row) = record { desk = desk }
 origin_of (commands.Withdraw desk municipality list number) = record { desk = desk }
@@ -18,10 +18,10 @@ origin_of (commands.Close municipality) = no_desk
 origin_of (commands.Reopen municipality) = no_desk
 origin_of (commands.Batch desk rows) = record { desk = desk }
 
--- one that the format can say
+-- an origin that the format can name
 pub record IsOriginOf (format : Format) (origin : Origin) : Type 0 where
   pub desk : origin.desk ≤ last_desk format
 
--- the desk, two zero bytes
+-- the desk and two zero bytes
 abbrev pub origin_spelling : Origin → List ℕ
 origin_spelling origin = origin.desk ∷ 0 ∷ 0 ∷ []

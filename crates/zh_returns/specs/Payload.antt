@@ -11,25 +11,25 @@ use Rattle.zh_returns.specs.EntryBytes.{entry_spelling}
 use Rattle.zh_returns.specs.Limits.{IsTally, IsSaidIn}
 use Rattle.zh_returns.specs.Tally.{Tally, empty, held}
 
--- so many numbers in a row, from the first on
+-- n consecutive numbers, from the first one on
 unfoldable pub numbers : ℕ → ℕ → List ℕ
 numbers first zero = []
 numbers first (suc n) = first ∷ numbers (first + 1) n
 
--- so many zero bytes
+-- n zero bytes
 unfoldable pub zeros : ℕ → List ℕ
 zeros zero = []
 zeros (suc n) = 0 ∷ zeros n
 
--- what is held, municipality by municipality, and in each list by list
+-- what is held, municipality by municipality, and list by list in each
 abbrev pub table_of : Tally → ℕ → List (Option Entry)
 table_of tally municipalities = flat_map (λ municipality. map (held tally municipality) (numbers 1 32)) (numbers 1 municipalities)
 
--- of eight municipalities, which are closed
+-- the byte that says which of eight municipalities are closed
 abbrev pub closed_byte : Tally → ℕ → ℕ
 closed_byte tally byte = mask_of (map (set.contains tally.closed) (numbers (8 * byte + 1) 8))
 
--- the bytes of a count
+-- the number of bytes of a count
 abbrev pub payload_length : ℕ
 payload_length = 8 + 64 + 175 + 16 * (32 * 512)
 
@@ -38,19 +38,20 @@ abbrev pub format_byte : Format → ℕ
 format_byte One = 0
 format_byte Two = 2
 
--- how many commands were accepted, which of 512 municipalities are closed, the format and 174 bytes not in use, what is held
+-- how many commands were accepted, which of 512 municipalities are closed, the format and 174 bytes that are not in use, and
+-- what is held
 abbrev pub payload_spelling : Format → Tally → List ℕ
 payload_spelling format tally =
     to_be_bytes w64 tally.accepted
     ++ (map (closed_byte tally) (numbers 0 64) ++ ((format_byte format ∷ zeros 174) ++ flat_map entry_spelling (table_of tally 512)))
 
--- these are the bytes of the count in this format, which can say the origins of its entries
+-- these are the bytes of the count in this format, which can name the origins of its entries
 pub record IsPayload (format : Format) (tally : Tally) (bytes : List ℕ) : Type 0 where
   pub said : IsSaidIn format tally
   pub spelling : payload_spelling format tally ≡ bytes
 
--- A count becomes the one that has these bytes in one of the formats; or there is none, and it is the count before the
--- first return. Its set-up stays.
+-- The count becomes the one that has these bytes in one of the formats. If there is none, it becomes the empty count. Its
+-- set-up does not change.
 pub record TakesPayload (old : Tally) (bytes : List ℕ) (is_read : Bool) (new : Tally) : Type 0 where
   pub canton : new.canton ≡ old.canton
   pub limits : IsTally new

@@ -1,4 +1,4 @@
--- The rows that bytes stand for.
+-- The rows that bytes spell.
 use Rattle.std.specs.Prelude.{◌≡◌, ℕ, zero, suc, ◌/◌, List, [], ◌∷◌, length, take, drop, slice_index}
 use Rattle.std.specs.Int.{w16, w32, from_be_bytes}
 use Rattle.std.specs.List.{flat_map}
@@ -15,19 +15,19 @@ row_from bytes = record {
   votes = from_be_bytes w32 (take 4 (drop 7 bytes));
 }
 
--- so many rows, each of the next eleven bytes
+-- n rows, each from the next eleven bytes
 unfoldable pub rows_from : ℕ → List ℕ → List Row
 rows_from zero bytes = []
 rows_from (suc n) bytes = row_from bytes ∷ rows_from n (drop row_length bytes)
 
--- all the rows of bytes
+-- all rows that the bytes spell
 abbrev pub rows_in : List ℕ → List Row
 rows_in bytes = rows_from (length bytes / row_length) bytes
 
 abbrev pub rows_inside : Inside → List Row
 rows_inside r = rows_in r.bytes.now
 
--- rows that have these bytes, and make a batch
+-- the rows have these bytes and are a batch
 pub record AreRowBytes (r : Inside) : Type 0 where
   pub spelling : flat_map row_spelling (rows_inside r) ≡ r.bytes.now
   pub batch : IsBatch (rows_inside r)

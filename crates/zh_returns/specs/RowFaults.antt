@@ -12,16 +12,16 @@ use Rattle.zh_returns.specs.declared.judgement.Reason.TheVariants as reasons
 use Rattle.zh_returns.specs.declared.row.RowFault.{RowFault}
 use Rattle.zh_returns.specs.declared.row.RowFault.TheVariants.{Twice, BatchFull}
 
--- a list that has no place, or else too many votes
+-- the list does not stand there; otherwise, there are too many votes
 abbrev pub unfit_at : Option Misplaced → ℕ → Option Reason
 unfit_at (Some place) votes = Some (reason_of place)
 unfit_at None votes = if nat_lt most_votes votes then Some reasons.Votes else None
 
--- why no batch may have a row: the first that applies
+-- why no batch may contain a row: the first reason that applies
 abbrev pub unfit : Canton → Row → Option Reason
 unfit canton row = unfit_at (misplaced canton row.municipality row.list) row.votes
 
--- why a batch of these rows does not take one more: the first that applies
+-- why a batch of these rows does not take one more: the first reason that applies
 abbrev pub fault_in : List Row → Row → Option RowFault
 fault_in rows row = if has_key rows (row_key row) then Some Twice else if nat_le most_rows (length rows) then Some BatchFull else None
 

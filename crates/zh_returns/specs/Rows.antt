@@ -10,44 +10,44 @@ use Rattle.zh_returns.specs.Keys.{key_cmp}
 abbrev pub row_spelling : Row → List ℕ
 row_spelling row = to_be_bytes w16 row.municipality ++ (row.list ∷ (to_be_bytes w32 row.number ++ to_be_bytes w32 row.votes))
 
--- the numbers of a row have room in its bytes
+-- the numbers of a row fit into its bytes
 abbrev pub FitsRow : Row → Type 0
 FitsRow row = (row.municipality < 2 ^ 16) × (row.list < 2 ^ 8)
 
--- numbers for which there is room, and a replacement number from 1
+-- numbers that fit into their bytes, and a replacement number from 1 on
 pub record IsSpeakableRow (row : Row) : Type 0 where
   pub municipality : row.municipality < 2 ^ 16
   pub list : row.list < 2 ^ 8
   pub number : (1 ≤ row.number) × (row.number < 2 ^ 32)
   pub votes : row.votes < 2 ^ 32
 
--- the key under which a row stands
+-- the key of a row
 abbrev pub row_key : Row → ℕ × ℕ
 row_key row = (row.municipality, row.list)
 
--- whether one of the rows stands under a key
+-- whether one of the rows has this key
 abbrev pub has_key : List Row → ℕ × ℕ → Bool
 has_key rows key = list_any (eq_by_cmp key_cmp key) (map row_key rows)
 
--- the most rows of a batch
+-- the greatest number of rows of a batch
 abbrev pub most_rows : ℕ
 most_rows = 1000
 
--- the bytes of a row
+-- the number of bytes of a row
 abbrev pub row_length : ℕ
 row_length = 11
 
--- the most bytes of the rows of a batch
+-- the greatest number of bytes of the rows of a batch
 abbrev pub rows_length : ℕ
 rows_length = 11000
 
--- no more rows than a batch may have, each with bytes and under a key of its own
+-- no more rows than a batch may have; each can be spelled, and no two have the same key
 pub record AreRows (rows : List Row) : Type 0 where
   pub most : length rows ≤ most_rows
   pub speakable : All IsSpeakableRow rows
   pub keys : IsDistinct (eq_by_cmp key_cmp) (map row_key rows)
 
--- the same, and not without a row
+-- the same, with at least one row
 pub record IsBatch (rows : List Row) : Type 0 where
   pub some : 1 ≤ length rows
   pub are_rows : AreRows rows

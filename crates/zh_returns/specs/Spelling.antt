@@ -8,13 +8,13 @@ use Rattle.zh_returns.specs.declared.command.Format.{Format}
 use Rattle.zh_returns.specs.declared.command.Format.TheVariants.{One, Two}
 use Rattle.zh_returns.specs.Rows.{row_spelling, FitsRow, IsSpeakableRow, IsBatch}
 
--- the kind of a command with a desk: format One has a byte for it, format Two another, and the desk in one more
+-- the kind of a command with a desk: one byte in format One; another byte, and then the desk in one byte, in format Two
 abbrev pub head : Format → ℕ → ℕ → ℕ → List ℕ
 head One one two desk = one ∷ []
 head Two one two desk = two ∷ desk ∷ []
 
--- the kind of the command, and what it is about: a municipality in two bytes, a list in one, a replacement number in four; of a
--- batch the number of rows in two, and the rows in order
+-- the kind of the command and its content: a municipality in two bytes, a list in one, a replacement number in four; for a
+-- batch, the number of rows in two bytes and the rows in order
 abbrev pub command_spelling : Format → Command → List ℕ
 command_spelling format (commands.Return desk row) = head format 1 6 desk ++ row_spelling row
 command_spelling format (commands.Withdraw desk municipality list number) =
@@ -23,16 +23,16 @@ command_spelling format (commands.Close municipality) = 3 ∷ to_be_bytes w16 mu
 command_spelling format (commands.Reopen municipality) = 4 ∷ to_be_bytes w16 municipality
 command_spelling format (commands.Batch desk rows) = head format 5 8 desk ++ (to_be_bytes w16 (length rows) ++ flat_map row_spelling rows)
 
--- the last desk that a format can say: format One says none
+-- the last desk that a format can name: format One names none
 abbrev pub last_desk : Format → ℕ
 last_desk One = 0
 last_desk Two = 8
 
--- numbers of a withdrawal for which there is room, and a replacement number from 1
+-- the numbers of a withdrawal fit into their bytes, and the replacement number is at least 1
 abbrev pub IsWithdrawal : ℕ → ℕ → ℕ → Type 0
 IsWithdrawal municipality list number = (municipality < 2 ^ 16) × (list < 2 ^ 8) × (1 ≤ number) × (number < 2 ^ 32)
 
--- the desk and the numbers of a command have room in its bytes
+-- the desk and the numbers of a command fit into its bytes
 abbrev pub FitsCommand : Command → Type 0
 FitsCommand (commands.Return desk row) = (desk ≤ last_desk Two) × FitsRow row
 FitsCommand (commands.Withdraw desk municipality list number) = (desk ≤ last_desk Two) × (municipality < 2 ^ 16) × (list < 2 ^ 8)
@@ -40,7 +40,7 @@ FitsCommand (commands.Close municipality) = municipality < 2 ^ 16
 FitsCommand (commands.Reopen municipality) = municipality < 2 ^ 16
 FitsCommand (commands.Batch desk rows) = (desk ≤ last_desk Two) × All FitsRow rows
 
--- a desk that the format can say, numbers for which there is room, replacement numbers from 1, and rows that make a batch
+-- a desk that the format can name, numbers that fit into their bytes, replacement numbers from 1 on, and rows that are a batch
 abbrev pub IsSpeakable : Format → Command → Type 0
 IsSpeakable format (commands.Return desk row) = (desk ≤ last_desk format) × IsSpeakableRow row
 IsSpeakable format (commands.Withdraw desk municipality list number) = (desk ≤ last_desk format) × IsWithdrawal municipality list number
@@ -48,7 +48,7 @@ IsSpeakable format (commands.Close municipality) = municipality < 2 ^ 16
 IsSpeakable format (commands.Reopen municipality) = municipality < 2 ^ 16
 IsSpeakable format (commands.Batch desk rows) = (desk ≤ last_desk format) × IsBatch rows
 
--- a desk up to the last, replacement numbers from 1 that four bytes can hold, and rows that make a batch
+-- a desk up to the last one, replacement numbers from 1 on that fit into four bytes, and rows that are a batch
 abbrev pub HasNumbers : Command → Type 0
 HasNumbers (commands.Return desk row) = (desk ≤ last_desk Two) × (1 ≤ row.number) × (row.number < 2 ^ 32)
 HasNumbers (commands.Withdraw desk municipality list number) = (desk ≤ last_desk Two) × (1 ≤ number) × (number < 2 ^ 32)

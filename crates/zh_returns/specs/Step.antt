@@ -19,19 +19,19 @@ use Rattle.zh_returns.specs.Judgement.{judge, judge_row, is_accept}
 use Rattle.zh_returns.specs.Limits.{most_votes}
 use Rattle.zh_returns.specs.Rows.{row_key}
 
--- what is held after a return
+-- the entry of a return
 abbrev pub entry_of : Origin → Row → Entry
 entry_of origin row = record { origin = origin; number = row.number; votes = Some row.votes }
 
--- the entries of rows, put over those that are held
+-- the entries after those of the rows were put in, in place of what is held
 abbrev pub with_rows : Origin → map.FinMap key_cmp Entry → List Row → map.FinMap key_cmp Entry
 with_rows origin = fold (λ entries row. map.insert entries (row_key row) (entry_of origin row))
 
--- of a batch, the rows that are accepted: of an accepted batch the others are held already, and their entries keep their origins
+-- the accepted rows of a batch; if the batch is accepted, the others are already held, and their entries keep their origins
 abbrev pub accepted_rows : Tally → List Row → List Row
 accepted_rows tally = filter (λ row. is_accept (judge_row tally row))
 
--- what is held after a command, if what it puts comes from there
+-- the entries after a command, if those that it puts have this origin
 abbrev pub entries_after : Origin → Tally → Command → map.FinMap key_cmp Entry
 entries_after origin tally (commands.Return desk row) = map.insert tally.entries (row_key row) (entry_of origin row)
 entries_after origin tally (commands.Withdraw desk municipality list number) =
@@ -48,7 +48,7 @@ closed_after tally (commands.Close municipality) = set.insert tally.closed munic
 closed_after tally (commands.Reopen municipality) = set.remove tally.closed municipality
 closed_after tally (commands.Batch desk rows) = tally.closed
 
--- the count with what the command says put over it, and one command more
+-- the count with the change that the command describes, and with one more accepted command
 abbrev pub changed : Tally → Command → Tally
 changed tally command = record {
   canton = tally.canton;
@@ -63,11 +63,11 @@ on_verdict Accept new old = new
 on_verdict Same new old = old
 on_verdict (Refused reason) new old = old
 
--- the count after a command: it changes only where it is accepted
+-- the count after a command: it changes only if the command is accepted
 abbrev pub step : Tally → Command → Tally
 step tally command = on_verdict (judge tally command) (changed tally command) tally
 
--- a command that is judged acceptable is stepped, which is the change that it says
+-- an accepted command leads to the next step, which is the change that it describes
 pub record Steps (old : Tally) (command : Command) (new : Tally) : Type 0 where
   pub step : new ≡ step old command
   pub changed : new ≡ changed old command
@@ -77,7 +77,7 @@ abbrev pub after : Tally → List Command → Tally
 after tally [] = tally
 after tally (command ∷ commands) = after (step tally command) commands
 
--- a row that may stand in the count: its list stands in its municipality, and its numbers are within the limits
+-- a row that may be put into the count: its list stands in its municipality, and its numbers are within the limits
 pub record MayStand (canton : Canton) (row : Row) : Type 0 where
   pub place : misplaced canton row.municipality row.list ≡ None
   pub number : 1 ≤ row.number

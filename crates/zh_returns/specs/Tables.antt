@@ -1,4 +1,4 @@
--- What the tables of a count stand for: a place for each key, and a flag for each municipality.
+-- What the tables of a count mean: a place for each key, and a flag for each municipality.
 use Rattle.std.specs.Prelude.{◌≡◌, ℕ, ◌+◌, ◌*◌, ◌-◌, ◌/◌, ◌%◌, ◌^◌, ◌==◌, Bool, true, false}
 use Rattle.std.specs.Prelude.{Option, Some, None, IfSome, List, [], ◌∷◌, get_or}
 use Rattle.std.specs.Ordering.{nat_cmp}
@@ -20,7 +20,7 @@ key_of place = (place / 32 + 1, place % 32 + 1)
 abbrev pub place_of : ℕ → ℕ → ℕ
 place_of municipality list = (municipality - 1) * 32 + (list - 1)
 
--- what the table holds, from this place on, under the keys of the places
+-- the entries that the table has from this place on, under the keys of their places
 abbrev pub entries_from : ℕ → List (Option Entry) → List ((ℕ × ℕ) × Entry)
 entries_from place [] = []
 entries_from place (None ∷ table) = entries_from (place + 1) table
@@ -29,7 +29,7 @@ entries_from place (Some entry ∷ table) = (key_of place, entry) ∷ entries_fr
 abbrev pub entries_of : List (Option Entry) → map.FinMap key_cmp Entry
 entries_of table = map.from_entries (entries_from 0 table)
 
--- the municipalities whose flag is set, where the first flag is that of this one
+-- the municipalities whose flag is set; the first flag is that of this municipality
 abbrev pub flagged_from : ℕ → List Bool → List ℕ
 flagged_from municipality [] = []
 flagged_from municipality (false ∷ flags) = flagged_from (municipality + 1) flags
@@ -38,7 +38,7 @@ flagged_from municipality (true ∷ flags) = municipality ∷ flagged_from (muni
 abbrev pub closed_of : List Bool → set.FinSet nat_cmp
 closed_of flags = set.from_list (flagged_from 1 flags)
 
--- the count that these tables stand for
+-- the count in these tables
 abbrev pub tally_from : Canton → List (Option Entry) → List Bool → ℕ → Tally
 tally_from canton table flags accepted =
     record { canton = canton; entries = entries_of table; closed = closed_of flags; accepted = accepted }
@@ -48,10 +48,10 @@ pub record IsHeldAt (format : Format) (canton : Canton) (key : ℕ × ℕ) (entr
   pub limits : IsEntryOf format entry
   pub place : misplaced canton key.0 key.1 ≡ None
 
--- what a table holds are such entries
+-- every entry of a table is such an entry
 abbrev pub IsTable : Format → Canton → List (Option Entry) → Type 0
 IsTable format canton table = (place : ℕ) → IfSome (get_or table place None) (IsHeldAt format canton (key_of place))
 
--- whether a bit of a number is set, where bit 0 is the lowest
+-- whether a bit of a number is set; bit 0 is the lowest
 abbrev pub bit_of : ℕ → ℕ → Bool
 bit_of number bit = number / 2 ^ bit % 2 == 1

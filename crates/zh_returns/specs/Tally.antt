@@ -14,7 +14,7 @@ pub record Tally : Type 0 where
   pub closed : set.FinSet nat_cmp
   pub accepted : ℕ
 
--- nothing is held, nothing closed, nothing accepted
+-- the empty count: nothing is held, closed or accepted
 abbrev pub empty : Canton → Tally
 empty canton = record { canton = canton; entries = map.empty; closed = set.empty; accepted = 0 }
 

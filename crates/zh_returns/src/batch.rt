@@ -1,4 +1,4 @@
-//! The batches of the desks: rows that are put together, and written.
+//! The batches of the desks: rows are collected and then written as bytes.
 ghost use Rattle.std.specs.Prelude.{◌≡◌, ◌≤◌, ◌++◌, ◌∷◌, [], None, length, OnOk, OnErr, ◌+◌, ◌*◌, ◌<◌, false, MatchOption};
 ghost use Rattle.zh_returns.specs.Numbers.{IsDesk};
 ghost use Rattle.zh_returns.specs.RowFaults.{fault_in};
@@ -10,8 +10,8 @@ use indexmap::IndexMap;
 use std::alloc::{AllocError, Global};
 use std::marker::Model;
 
-/// The rows that a desk puts together until it commits them, in the order in which they came: at most 1,000, no two of one
-/// municipality and list.
+/// The rows that a desk collects until it commits them, in the order in which they arrived. There are at most 1,000, and no two
+/// have the same municipality and list.
 #[derive(Drop)]
 pub struct Batch {
     rows: IndexMap<(u32, u32), Row>,
@@ -32,7 +32,7 @@ impl Model for Batch {
 }
 
 impl Batch {
-    /// A batch without rows. It takes no memory.
+    /// An empty batch. It allocates no memory.
     pub fn new(alloc: Global) -> Batch
         ensures { result ≡ [] }
     {
@@ -41,7 +41,7 @@ impl Batch {
         }
     }
 
-    /// How many rows there are.
+    /// The number of rows, 0 to 1,000.
     pub fn len(&self) -> usize
         ensures count { result ≡ length self.now }
         ensures limits { AreRows self.now }
@@ -49,14 +49,14 @@ impl Batch {
         self.rows.len()
     }
 
-    /// Whether there is a row of this municipality and list. It takes the same time however many rows there are.
+    /// Whether there is a row with this municipality and list. The time does not depend on the number of rows.
     pub fn has_key(&self, municipality: u32, list: u32) -> bool
         ensures { result ≡ has_key self.now (municipality, list) }
     {
         self.rows.contains_key(&(municipality, list))
     }
 
-    /// Why the batch does not take a row, if so: the first that applies.
+    /// Why the batch does not take a row: the first reason that applies. None if it takes the row.
     pub fn refuses(&self, row: Row) -> Option<RowFault>
         ensures { result ≡ fault_in self.now row }
     {
@@ -69,7 +69,7 @@ impl Batch {
         None
     }
 
-    /// Puts a row after the others. Where memory is refused the batch is as before.
+    /// Appends a row. If memory is refused, the batch is unchanged.
     pub fn push(&mut self, row: Row) -> Result<(), AllocError>
         requires taken { fault_in self.old row ≡ None }
         requires speakable { IsSpeakableRow row }
@@ -84,7 +84,8 @@ impl Batch {
         Ok(())
     }
 
-    /// Writes the rows, of which there is one at least, into these bytes, and lends them from there. It takes no memory.
+    /// Writes the rows, of which there must be at least one, into these bytes and returns them as borrowed from there. It
+    /// allocates no memory.
     pub fn write<'b>(&self, bytes: &'b mut [u8]) -> Rows<'b>
         requires some { 1 ≤ length self.now }
         requires room { rows_length ≤ length bytes.old }
@@ -99,7 +100,7 @@ impl Batch {
     }
 }
 
-/// The rows of a batch, one after the other, written into bytes of the caller's. It takes no memory.
+/// Writes the rows of a batch, one after another, into the caller's bytes. It allocates no memory.
 #[derive(Drop)]
 pub struct BatchWriter<'a> {
     bytes: &'a mut [u8],
@@ -119,7 +120,7 @@ impl<'a> Model for BatchWriter<'a> {
 }
 
 impl<'a> BatchWriter<'a> {
-    /// A writer into these bytes: a row takes 11 of them.
+    /// A writer into these bytes. A row takes 11 bytes.
     pub fn new(bytes: &'a mut [u8]) -> BatchWriter<'a>
         ensures rows { result.rows ≡ [] }
         ensures room { result.room ≡ length bytes.old }
@@ -152,7 +153,7 @@ impl<'a> BatchWriter<'a> {
     }
 }
 
-/// A desk that sends lines: there are eight, with the numbers from 1 on.
+/// A desk that sends lines. There are eight, with the numbers 1 to 8.
 #[derive(Clone, Copy, Debug, PartialEq, Eq)]
 pub struct Desk {
     pub number: u8,

@@ -3,36 +3,36 @@
 use crate::row::Row;
 use crate::rows::Rows;
 
-/// What a desk asks of the count. Municipalities and lists are numbered from 1, replacement numbers count from 1, and
-/// desks from 1 to 8; desk 0 stands for what no desk brought, or one that is not known.
+/// What a desk asks the count to do. Municipalities and lists are numbered from 1, replacement numbers start at 1, and desks
+/// have the numbers 1 to 8. Desk 0 means no desk, or a desk that is not known.
 #[derive(Drop)]
 pub enum Command<'a> {
     Return {
         desk: u8,
         row: Row,
     },
-    /// A list takes back its votes in a municipality, under a replacement number like a return's.
+    /// A list takes back its votes in a municipality, with a replacement number as for a return.
     Withdraw {
         desk: u8,
         municipality: u32,
         list: u32,
         number: u32,
     },
-    /// A municipality is complete: it takes no more returns and withdrawals.
+    /// A municipality is complete: it takes no more returns or withdrawals.
     Close {
         municipality: u32,
     },
     Reopen {
         municipality: u32,
     },
-    /// Several returns, all or none.
+    /// Several returns that are accepted together or not at all.
     Batch {
         desk: u8,
         rows: Rows<'a>,
     },
 }
 
-/// How commands are spelled. A command of format One names no desk; it is read, and no longer written.
+/// How commands are spelled as bytes. A command in format One names no desk. Format One is still read but no longer written.
 #[derive(Clone, Copy, Debug, PartialEq, Eq)]
 pub enum Format {
     One,

@@ -16,19 +16,19 @@ use crate::row::{ROW_LENGTH, read_row, write_row};
 use crate::rows::Rows;
 use byteorder::{BigEndian, ByteOrder};
 
-/// The most bytes of a command: those of a batch of 1,000 rows.
+/// The greatest length of a command in bytes: that of a batch of 1,000 rows.
 pub(crate) const COMMAND_LENGTH: usize = 11_004;
 
-/// The bytes of a kind and a desk.
+/// The length of a kind and a desk, in bytes.
 pub(crate) const HEAD_LENGTH: usize = 2;
 
-/// The bytes of a municipality, and of the number of rows.
+/// The length of a municipality, or of the number of rows, in bytes.
 pub(crate) const SHORT_LENGTH: usize = 2;
 
-/// The bytes of a withdrawal after its kind and its desk.
+/// The length of a withdrawal after its kind and its desk, in bytes.
 pub(crate) const WITHDRAWAL_LENGTH: usize = 7;
 
-/// Writes a command to the front of `out`, and gives how many bytes it takes, as docs/FORMATS.md has them.
+/// Writes a command to the front of `out` as docs/FORMATS.md describes it. Returns the number of its bytes.
 pub fn encode_command(command: &Command<'_>, out: &mut [u8]) -> usize
     requires fits { FitsCommand command.now }
     requires room { length (command_spelling Format.Two command.now) ≤ length out.old }
@@ -79,7 +79,7 @@ fn write_withdrawal(municipality: u32, list: u32, number: u32, out: &mut [u8])
     BigEndian::write_u32(&mut out[3..], number);
 }
 
-/// Writes a kind and a municipality to the front of `out`.
+/// Writes a kind and a municipality to the front of `out` and returns the number of their bytes.
 fn write_short(kind: u8, municipality: u32, out: &mut [u8]) -> usize
     requires municipality { municipality < 2 ^ 16 }
     requires room { 1 + SHORT_LENGTH ≤ length out.old }
@@ -91,7 +91,7 @@ fn write_short(kind: u8, municipality: u32, out: &mut [u8]) -> usize
     1 + SHORT_LENGTH
 }
 
-/// Writes a batch to the front of `out`.
+/// Writes a batch to the front of `out` and returns the number of its bytes.
 fn write_batch(desk: u8, rows: &Rows<'_>, out: &mut [u8]) -> usize
     requires { HEAD_LENGTH + SHORT_LENGTH + ROW_LENGTH * length rows.now ≤ length out.old }
     ensures length { result ≡ HEAD_LENGTH + SHORT_LENGTH + ROW_LENGTH * length rows.now }
@@ -142,7 +142,7 @@ pub fn decode_command(bytes: &[u8], format: Format) -> Option<Command<'_>>
     }
 }
 
-/// What a withdrawal is about.
+/// The fields of a withdrawal.
 struct Withdrawal {
     municipality: u32,
     list: u32,
@@ -150,7 +150,7 @@ struct Withdrawal {
 }
 
 impl Withdrawal {
-    /// The command of a desk.
+    /// This withdrawal as a command of a desk.
     fn by<'a>(self, desk: u8) -> Command<'a>
         ensures { result ≡ Command.Withdraw desk self.municipality self.list self.number }
     {
@@ -191,7 +191,7 @@ fn read_withdrawal(bytes: &[u8]) -> Option<Withdrawal>
     })
 }
 
-/// The number of two bytes.
+/// The number in two bytes. None if there are not two.
 fn read_short(bytes: &[u8]) -> Option<u32>
     ensures read { IfSome result (λ number. (number < 2 ^ 16) × (to_be_bytes w16 number ≡ bytes.now)) }
     ensures refused { IfNone result (length bytes.now ≢ SHORT_LENGTH) }

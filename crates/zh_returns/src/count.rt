@@ -16,7 +16,7 @@ use std::alloc::{AllocError, Global};
 use std::marker::Model;
 use zh_districts::{Misplaced, Setup};
 
-/// Why the list of a place does not stand in the municipality of the place, if it does not.
+/// Why the list of a place does not stand in the municipality of the place. None if it does.
 pub(crate) fn misplaced_at(setup: &Setup, place: usize) -> Option<Misplaced>
     requires { place < PLACES }
     ensures { result ≡ misplaced setup.now (key_of place).0 (key_of place).1 }
@@ -26,21 +26,21 @@ pub(crate) fn misplaced_at(setup: &Setup, place: usize) -> Option<Misplaced>
     setup.misplaced(municipality, list)
 }
 
-/// The most municipalities of a set-up.
+/// The greatest number of municipalities of a set-up.
 pub(crate) const MUNICIPALITIES: usize = 512;
 
-/// The most lists of a municipality.
+/// The greatest number of lists in a municipality.
 pub(crate) const LISTS: usize = 32;
 
-/// The places of the table of entries.
+/// The number of places in the table of entries.
 pub(crate) const PLACES: usize = MUNICIPALITIES * LISTS;
 
-/// The most votes of a return.
+/// The greatest number of votes of a return.
 pub const MOST_VOTES: u32 = 1_000_000_000;
 
 /// What the municipalities have returned so far, for one set-up: what is held under each municipality and list, which
-/// municipalities are closed, and how many commands were accepted. Municipalities and lists are numbered from 1.
-/// The memory for all of it is taken in `new`, and no other call takes any.
+/// municipalities are closed, and how many commands were accepted. Municipalities and lists are numbered from 1. `new`
+/// allocates all of its memory; no other call allocates any.
 #[derive(Drop)]
 pub struct Count<'s> {
     setup: &'s Setup,
@@ -65,7 +65,7 @@ impl<'s> Model for Count<'s> {
     ghost invariant = { IsInside };
 }
 
-/// A table of absent entries.
+/// A table without entries.
 fn absent(alloc: Global, places: usize) -> Result<Vec<Option<Entry>>, AllocError>
     ensures places { IfOk result (λ table. length table.items ≡ places) }
     ensures absent { IfOk result (λ table. All (λ entry. entry ≡ None) table.items) }
@@ -108,7 +108,7 @@ fn index_of(municipality: u32, list: u32) -> usize
 }
 
 impl<'s> Count<'s> {
-    /// The count of an election before its first return.
+    /// The empty count of an election. Fails if memory is refused.
     pub fn new(alloc: Global, setup: &'s Setup) -> Result<Count<'s>, AllocError>
         ensures { IfOk result (λ count. count ≡ empty setup.now) }
     {
@@ -160,7 +160,7 @@ impl<'s> Count<'s> {
         self.closed[(municipality - 1) as usize]
     }
 
-    /// Writes the count to the front of `out` in format Two, as docs/FORMATS.md has its bytes.
+    /// Writes the count to the front of `out` in format Two as docs/FORMATS.md describes it.
     pub fn encode(&self, out: &mut [u8])
         requires room { PAYLOAD_LENGTH ≤ length out.old }
         ensures spelling { out.new ≡ payload_spelling Format.Two self.now ++ drop PAYLOAD_LENGTH out.old }
@@ -169,8 +169,8 @@ impl<'s> Count<'s> {
         write_tables(&self.entries, &self.closed, self.accepted, out);
     }
 
-    /// Becomes the count for the set-up that has these bytes in one of the formats. Where there is none, it says so and
-    /// is the count before the first return.
+    /// Replaces this count with the one that has these bytes in one of the formats, for the same set-up. If there is none,
+    /// returns false and becomes the empty count.
     pub fn decode(&mut self, bytes: &[u8]) -> bool
         ensures { TakesPayload self.old bytes.now result self.new }
     {
@@ -188,7 +188,7 @@ impl<'s> Count<'s> {
         }
     }
 
-    /// Puts an entry of a list that stands in a municipality over what is held under their key.
+    /// Replaces what is held under a key with an entry. The list stands in the municipality.
     pub(crate) fn put(&mut self, municipality: u32, list: u32, entry: Entry)
         requires place { misplaced self.old.canton municipality list ≡ None }
         requires entry { IsEntry entry }

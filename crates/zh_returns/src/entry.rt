@@ -11,8 +11,8 @@ use crate::count::MOST_VOTES;
 use crate::payload::is_zero;
 use byteorder::{BigEndian, ByteOrder};
 
-/// What the count holds under a key: where it came from, a replacement number from 1, and the votes, or none where the list
-/// was withdrawn.
+/// What the count holds under a key: its origin, a replacement number from 1 on, and the votes, or None if the list was
+/// withdrawn.
 #[derive(Clone, Copy)]
 pub struct Entry {
     pub origin: Origin,
@@ -20,25 +20,25 @@ pub struct Entry {
     pub votes: Option<u32>,
 }
 
-/// Where an entry came from: the desk that set it. Desks are 1 to 8; desk 0 stands for a load, and for what was stored
-/// before desks were.
+/// Where an entry came from: the desk that set it. Desks have the numbers 1 to 8. Desk 0 means a load, or an entry from before
+/// desks were stored.
 #[derive(Clone, Copy, PartialEq, Eq)]
 pub struct Origin {
     pub desk: u8,
 }
 
-/// The bytes of an origin.
+/// The length of an origin, in bytes.
 pub(crate) const ORIGIN_LENGTH: usize = 3;
 
 impl Origin {
-    /// No desk, or none that is known.
+    /// No desk, or a desk that is not known.
     pub(crate) fn no_desk() -> Origin
         ensures { result ≡ no_desk }
     {
         Origin { desk: 0 }
     }
 
-    /// Where what a command puts comes from.
+    /// The origin of the entries that a command puts into the count.
     pub(crate) fn of(command: &Command<'_>) -> Origin
         ensures { result ≡ origin_of command.now }
     {
@@ -58,7 +58,7 @@ impl Origin {
         out.copy_from_slice(&[self.desk, 0, 0]);
     }
 
-    /// The origin that these bytes of a format say, if they say one.
+    /// The origin that these bytes spell in a format, if they spell one.
     pub(crate) fn read(format: Format, bytes: &[u8]) -> Option<Origin>
         requires { length bytes.now ≡ ORIGIN_LENGTH }
         ensures { Decodes (IsOriginOf format) origin_spelling bytes.now result }
@@ -71,7 +71,7 @@ impl Origin {
     }
 }
 
-/// The last desk that a format can say.
+/// The last desk that a format can name.
 fn last_desk(format: Format) -> u8
     ensures { result ≡ last_desk format }
 {
@@ -81,19 +81,19 @@ fn last_desk(format: Format) -> u8
     }
 }
 
-/// The bytes of an entry.
+/// The length of an entry, in bytes.
 pub(crate) const ENTRY_LENGTH: usize = 16;
 
-/// The state where nothing is held.
+/// The state if nothing is held.
 const ABSENT: u8 = 0;
 
-/// The state of votes.
+/// The state if votes are held.
 const RETURNED: u8 = 1;
 
-/// The state of a withdrawn list.
+/// The state if the list was withdrawn.
 const WITHDRAWN: u8 = 2;
 
-/// What the bytes of an entry say.
+/// The fields in the bytes of an entry.
 #[derive(Clone, Copy, PartialEq, Eq)]
 struct EntryFields {
     state: u8,
@@ -110,7 +110,7 @@ pub(crate) fn write_entry(held: Option<Entry>, out: &mut [u8])
     write_fields(fields_of(held), out);
 }
 
-/// What is held by these bytes of a format, if they are those of nothing or of an entry within its limits.
+/// What these bytes spell in a format: nothing, or an entry within its limits. None if they spell neither.
 #[tactic(auto, unfolding(crate::specs::EntryBytes::entry_spelling))]
 pub(crate) fn read_entry(format: Format, bytes: &[u8]) -> Option<Option<Entry>>
     requires { length bytes.now ≡ ENTRY_LENGTH }
@@ -174,7 +174,7 @@ fn write_fields(fields: EntryFields, out: &mut [u8])
     BigEndian::write_u32(&mut out[8..12], fields.votes);
 }
 
-/// The fields that these bytes of a format say, if they say any.
+/// The fields that these bytes spell in a format, if they spell any.
 fn read_fields(format: Format, bytes: &[u8]) -> Option<EntryFields>
     requires { length bytes.now ≡ ENTRY_LENGTH }
     ensures { Decodes (λ fields. IsOriginOf format fields.origin) fields_spelling bytes.now result }

@@ -20,11 +20,11 @@ pub enum Reason {
     Votes,
     /// The municipality is closed.
     Closed,
-    /// A replacement number below the one that is held.
+    /// The replacement number is below the one that is held.
     Stale,
-    /// A replacement number above the next one.
+    /// The replacement number is above the next one.
     Gap,
-    /// The number that is held, with other content.
+    /// The replacement number is the one that is held, but the content is different.
     Conflict,
     /// This municipality is open.
     NotClosed(u32),
@@ -47,12 +47,12 @@ impl From<Misplaced> for Reason {
 #[derive(Clone, Copy, Debug, PartialEq, Eq)]
 pub enum Verdict {
     Accept,
-    /// The count holds it already.
+    /// The count already holds it.
     Same,
     Refused(Reason),
 }
 
-/// What becomes of a content, votes or none for a withdrawn list, under a replacement number.
+/// The verdict on a content, that is, votes or None for a withdrawn list, with a replacement number, given what is held.
 fn against(held: Option<Entry>, number: u32, content: Option<u32>) -> Verdict
     ensures { result ≡ against held number content }
 {
@@ -68,18 +68,18 @@ fn against(held: Option<Entry>, number: u32, content: Option<u32>) -> Verdict
 }
 
 impl<'s> Count<'s> {
-    /// What becomes of a command, whatever numbers it has. Of a return the first of these decides:
+    /// The verdict on a command, whatever numbers it contains. For a return, the first of these cases decides:
     ///
     /// 1. The set-up has no such municipality: `Municipality`.
     /// 2. The list does not stand in the constituency of the municipality: `List`.
     /// 3. It has more than 1,000,000,000 votes: `Votes`.
     /// 4. The municipality is closed: `Closed`.
-    /// 5. Nothing is held for the list there: accepted with number 1, else `Gap`.
-    /// 6. The number held is `n`: a lower number is `Stale`; `n` is `Same` with the votes held, else `Conflict`; `n + 1`
-    ///    is accepted; a higher one is `Gap`. A withdrawn list holds no votes, which differs from 0 votes.
+    /// 5. Nothing is held for the list there: accepted with number 1, otherwise `Gap`.
+    /// 6. The number held is `n`: a lower number is `Stale`; `n` is `Same` with the votes held, otherwise `Conflict`;
+    ///    `n + 1` is accepted; a higher one is `Gap`. A withdrawn list holds no votes, which differs from 0 votes.
     ///
-    /// A withdrawal is judged like a return without votes, and which desk asks is not looked at. Of a batch each row is
-    /// judged against this count: the first row that is refused gives its reason to all.
+    /// A withdrawal is judged like a return without votes. The desk makes no difference. Each row of a batch is judged against
+    /// this count. If rows are refused, the batch is refused for the reason of the first one.
     pub fn judge(&self, command: &Command<'_>) -> Verdict
         ensures { result ≡ judge self.now command.now }
     {
@@ -148,7 +148,7 @@ impl<'s> Count<'s> {
         self.judge_row(row) == Verdict::Accept
     }
 
-    /// What becomes of a content, votes or none for a withdrawn list, for a key under a replacement number.
+    /// The verdict on a content, that is, votes or None for a withdrawn list, for a key with a replacement number.
     fn judge_content(
         &self,
         municipality: u32,

@@ -17,8 +17,8 @@ ghost use Rattle.zh_returns.specs.Step.{changed, entry_of};
 ghost use Rattle.zh_returns.specs.Tally.{Tally, held};
 ghost use Rattle.zh_returns.specs.declared.command_bytes.TheConstants.{COMMAND_LENGTH};
 
-/// Two counts for one set-up with the same bytes are the same count, in the same format; each count has as many bytes,
-/// and byte 72 of them says the format. A count that a command may follow can be said in format Two.
+/// Two counts for one set-up with the same bytes are the same count, in the same format. Every count has the same number of
+/// bytes, and byte 72 says the format. Format Two can spell every count within its limits.
 pub fn one_payload()
     ensures length { (format : Format) (tally : Tally) → length (payload_spelling format tally) ≡ payload_length }
     ensures format { (format : Format) (tally : Tally) → slice_get (payload_spelling format tally) 72 ≡ Some (format_byte format) }
@@ -28,21 +28,21 @@ pub fn one_payload()
     ensures said { (tally : Tally) → IsTally tally → IsSaidIn Format.Two tally }
 {}
 
-/// The numbers of an accepted command have room in its bytes, if its origin is one that they can say.
+/// The numbers of an accepted command fit into its bytes, if format Two can name its desk.
 pub fn accepted_fits()
     ensures { (tally : Tally) (command : Command) → IsTally tally → IsOriginOf Format.Two (origin_of command)
         → judge tally command ≡ Accept → FitsCommand command }
 {}
 
-/// An accepted command whose desk can be said and whose replacement numbers are from 1 has bytes in format Two that are
-/// read as this command.
+/// An accepted command has bytes in format Two that are read back as this command, if the format can name its desk, its
+/// replacement numbers are from 1 on and fit into four bytes, and its rows are a batch.
 pub fn accepted_is_speakable()
     ensures { (tally : Tally) (command : Command) → IsTally tally → HasNumbers command → judge tally command ≡ Accept
         → IsSpeakable Format.Two command }
 {}
 
-/// After an accepted batch each of its rows is held: one that was accepted has the batch's origin, one that was judged the
-/// same keeps what was held. A key that no row has holds what it held.
+/// After an accepted batch, each of its rows is held. A row that was accepted has the origin of the batch. For a row that was
+/// judged the same, what was held is unchanged. Under a key that no row has, what was held is unchanged.
 pub fn batch_is_held()
     ensures rows { (tally : Tally) (desk : ℕ) (rows : List Row) (i : ℕ) (row : Row) → IsBatch rows
         → judge tally (commands.Batch desk rows) ≡ Accept → slice_get rows i ≡ Some row
@@ -66,7 +66,7 @@ pub fn one_command()
         → command_spelling format a ≡ command_spelling format b → a ≡ b }
 {}
 
-/// A command that is read from bytes of either format fits those of format Two, and takes no more than a batch of 1,000 rows.
+/// A command that is read from bytes of either format fits into format Two and takes no more bytes than a batch of 1,000 rows.
 pub fn speakable_fits()
     ensures fits { (format : Format) (command : Command) → IsSpeakable format command → FitsCommand command }
     ensures short { (format : Format) (command : Command) → IsSpeakable format command

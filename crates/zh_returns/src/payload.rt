@@ -19,16 +19,16 @@ use crate::entry::{ENTRY_LENGTH, Entry, read_entry, write_entry};
 use byteorder::{BigEndian, ByteOrder};
 use zh_districts::Setup;
 
-/// The bytes of the number of accepted commands.
+/// The length of the number of accepted commands, in bytes.
 const ACCEPTED_LENGTH: usize = 8;
 
-/// The bytes of the closed municipalities.
+/// The length of the flags of closed municipalities, in bytes.
 const CLOSED_LENGTH: usize = MUNICIPALITIES / 8;
 
-/// The bytes of the format, which is the first of them; the others are not in use.
+/// The length of the format, in bytes. The first byte is the format; the others are not in use.
 const FORMAT_LENGTH: usize = 175;
 
-/// The place of the format.
+/// The place of the format in the bytes of a count.
 const FORMAT: usize = ACCEPTED_LENGTH + CLOSED_LENGTH;
 
 /// The byte of format One.
@@ -37,17 +37,17 @@ const FORMAT_ONE: u8 = 0;
 /// The byte of format Two.
 const FORMAT_TWO: u8 = 2;
 
-/// The bytes of the table of entries.
+/// The length of the table of entries, in bytes.
 const ENTRIES_LENGTH: usize = PLACES * ENTRY_LENGTH;
 
-/// The bytes of a count.
+/// The length of a count, in bytes.
 pub const PAYLOAD_LENGTH: usize = 262_391;
 
 const _: () = prove!(
     PAYLOAD_LENGTH == ACCEPTED_LENGTH + CLOSED_LENGTH + FORMAT_LENGTH + ENTRIES_LENGTH
 );
 
-/// Writes that the bytes are those of format Two.
+/// Writes the bytes of format Two.
 fn write_format(out: &mut [u8])
     requires { length out.old ≡ FORMAT_LENGTH }
     ensures { out.new ≡ format_byte Format.Two ∷ zeros 174 }
@@ -56,7 +56,7 @@ fn write_format(out: &mut [u8])
     out[0] = FORMAT_TWO;
 }
 
-/// The format that a byte stands for, if it stands for one.
+/// The format that a byte means, if it means one.
 fn format_of(byte: u8) -> Option<Format>
     ensures read { IfSome result (λ format. format_byte format ≡ byte) }
     ensures refused { IfNone result ((format : Format) → format_byte format ≢ byte) }
@@ -80,8 +80,8 @@ fn read_format(bytes: &[u8]) -> Option<Format>
     format_of(bytes[0])
 }
 
-/// The format of a count's bytes, as byte 72 of them says, if it says one; whether they are those of a count is not
-/// looked at. It takes no memory.
+/// The format of a count's bytes, as byte 72 says it, if it says one. Whether the bytes are those of a count is not checked. It
+/// allocates no memory.
 pub fn payload_format(bytes: &[u8]) -> Option<Format>
     ensures read { IfSome result (λ format. slice_get bytes.now 72 ≡ Some (format_byte format)) }
     ensures refused { IfNone result ((format : Format) → slice_get bytes.now 72 ≢ Some (format_byte format)) }
@@ -89,7 +89,7 @@ pub fn payload_format(bytes: &[u8]) -> Option<Format>
     format_of(*bytes.get(FORMAT)?)
 }
 
-/// Writes the count that these tables stand for to the front of `out`, in format Two.
+/// Writes the count in these tables to the front of `out`, in format Two.
 pub(crate) fn write_tables(
     entries: &[Option<Entry>],
     closed: &[bool],
@@ -112,8 +112,8 @@ pub(crate) fn write_tables(
     write_entries(entries, table);
 }
 
-/// Fills the tables with the count for the set-up that has these bytes, and gives how many commands it accepted. Where
-/// there is none, the tables hold anything.
+/// Fills the tables with the count for the set-up that has these bytes. Returns how many commands it accepted, or None if there
+/// is no such count; the contents of the tables are then unspecified.
 pub(crate) fn read_tables(
     setup: &Setup,
     bytes: &[u8],
@@ -157,7 +157,7 @@ pub(crate) fn write_entries(table: &[Option<Entry>], out: &mut [u8])
     }
 }
 
-/// Fills a table from its bytes of a format, if they are those of a table for the set-up.
+/// Fills a table from its bytes in a format. False if they are not those of a table for the set-up.
 pub(crate) fn read_entries(
     setup: &Setup,
     format: Format,
@@ -181,7 +181,7 @@ pub(crate) fn read_entries(
     true
 }
 
-/// What is held at a place by these bytes of a format.
+/// What these bytes spell in a format for a place. None if that cannot be held there.
 fn read_held(setup: &Setup, format: Format, place: usize, bytes: &[u8]) -> Option<Option<Entry>>
     requires length { length bytes.now ≡ ENTRY_LENGTH }
     requires place { place < PLACES }
@@ -228,7 +228,7 @@ pub(crate) fn read_flags(bytes: &[u8], flags: &mut [bool])
     }
 }
 
-/// Whether none of the flags is set.
+/// Whether no flag is set.
 pub(crate) fn none_set(flags: &[bool]) -> bool
     ensures { result ≡ list_all not flags.now }
 {
@@ -241,7 +241,7 @@ pub(crate) fn write_zeros(out: &mut [u8])
     out.fill(0);
 }
 
-/// Whether no byte but 0 is there.
+/// Whether all bytes are 0.
 pub(crate) fn is_zero(bytes: &[u8]) -> bool
     ensures { result ≡ list_all (λ byte. byte == 0) bytes.now }
 {

@@ -12,7 +12,7 @@ use byteorder::{BigEndian, ByteOrder};
 use thiserror::Error;
 use zh_districts::Setup;
 
-/// A return of one list in one municipality: its votes under a replacement number, which counts from 1.
+/// A return of one list in one municipality: its votes, with a replacement number that starts at 1.
 #[derive(Clone, Copy)]
 pub struct Row {
     pub municipality: u32,
@@ -21,13 +21,13 @@ pub struct Row {
     pub votes: u32,
 }
 
-/// Why a batch does not take a row: the first that applies.
+/// Why a batch does not take a row: the first reason that applies.
 #[derive(Clone, Copy, Debug, PartialEq, Eq, Error)]
 #[error("{}", self.name())]
 pub enum RowFault {
-    /// The batch has a row of this municipality and list.
+    /// The batch already has a row with this municipality and list.
     Twice,
-    /// The batch has 1,000 rows.
+    /// The batch already has 1,000 rows.
     BatchFull,
 }
 
@@ -46,8 +46,8 @@ impl RowFault {
     }
 }
 
-/// Why no batch may have a row, if so: the first that applies. The set-up has no such municipality, the list does not
-/// stand in its constituency, or there are more votes than a return may have.
+/// Why no batch may contain a row: the first reason that applies. The set-up has no such municipality, the list does not stand
+/// in its constituency, or there are more votes than a return may have. None if a batch may contain the row.
 pub fn unfit(setup: &Setup, row: Row) -> Option<Reason>
     ensures first { result ≡ unfit setup.now row }
     ensures fits { IfNone result (FitsRow row) }
@@ -58,13 +58,13 @@ pub fn unfit(setup: &Setup, row: Row) -> Option<Reason>
     if row.votes > MOST_VOTES {
         return Some(Reason::Votes);
     }
-    // So a row that may stand in a batch fits its bytes.
+    // So a row that a batch may contain fits into its bytes.
     let is_small = setup.municipalities() <= 512 && setup.groups() <= 32;
     prove!(is_small);
     None
 }
 
-/// The bytes of a row.
+/// The length of a row, in bytes.
 pub(crate) const ROW_LENGTH: usize = 11;
 
 pub(crate) fn write_row(row: Row, out: &mut [u8])
@@ -78,7 +78,7 @@ pub(crate) fn write_row(row: Row, out: &mut [u8])
     BigEndian::write_u32(&mut out[7..], row.votes);
 }
 
-/// The row of these bytes, whose replacement number may be 0.
+/// The row that these bytes spell. Its replacement number can be 0.
 pub(crate) fn row_of(bytes: &[u8]) -> Row
     requires { length bytes.now ≡ ROW_LENGTH }
     ensures row { result ≡ row_from bytes.now }

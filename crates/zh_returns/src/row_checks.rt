@@ -1,4 +1,4 @@
-//! What rows have to meet as a batch.
+//! The conditions that rows must meet to be a batch.
 ghost use Rattle.std.specs.List.{IsDistinct};
 ghost use Rattle.std.specs.Ordering.{eq_by_cmp};
 ghost use Rattle.std.specs.Prelude.{◌≡◌, ◌↔◌, ◌*◌, ◌/◌, ◌≤◌, length, map, true, All, ◌||◌, ◌&&◌, ◌==◌, ℕ, ◌+◌, ◌<◌, not, slice_index};
@@ -10,7 +10,7 @@ ghost use Rattle.zh_returns.specs.Rows.{row_key, IsSpeakableRow};
 use crate::row::{ROW_LENGTH, row_of};
 use crate::rows::MOST_ROWS;
 
-/// Whether each row has a replacement number from 1.
+/// Whether the replacement number of each row is at least 1.
 pub(crate) fn are_numbered(bytes: &[u8]) -> bool
     ensures { (result ≡ true) ↔ All IsSpeakableRow (rows_in bytes.now) }
 {
@@ -23,7 +23,8 @@ pub(crate) fn are_numbered(bytes: &[u8]) -> bool
     true
 }
 
-/// Whether each row has a key of its own. Its tables take 160 KiB of the stack, which only a batch should need.
+/// Whether no two rows have the same key. The tables take 160 KiB of the stack, which only the check of a batch should need; so
+/// the function is not inlined.
 #[inline(never)]
 pub(crate) fn have_own_keys(bytes: &[u8]) -> bool
     requires { length bytes.now / ROW_LENGTH ≤ MOST_ROWS }
@@ -41,13 +42,13 @@ pub(crate) fn have_own_keys(bytes: &[u8]) -> bool
     true
 }
 
-/// A block for each municipality that a key can name, 0 for none; its keys are marked there.
+/// The number of municipalities that a key can name. Each has the number of a block in which its keys are marked, or 0.
 pub(crate) const MUNICIPALITIES: usize = 65_536;
 
-/// The places of a block, one for each list that a key can name.
+/// The number of places in a block, one for each list that a key can name.
 pub(crate) const LISTS: usize = 256;
 
-/// The bytes of so many blocks as there can be keys, a bit for each place.
+/// The length in bytes of as many blocks as there can be keys, with a bit for each place.
 pub(crate) const MARKS: usize = MOST_ROWS * LISTS / 8;
 
 pub(crate) fn no_blocks<const N: usize>() -> [u16; N]
@@ -64,7 +65,7 @@ pub(crate) fn no_marks<const N: usize>() -> [u8; N]
     [0; N]
 }
 
-/// Puts a key into the set, and gives whether it was not there.
+/// Inserts a key into the set and returns whether it was not there before.
 pub(crate) fn insert_key(
     blocks: &mut [u16],
     marks: &mut [u8],
@@ -95,7 +96,7 @@ pub(crate) fn insert_key(
     )
 }
 
-/// Marks a place, and gives whether it was not marked.
+/// Marks a place and returns whether it was not marked before.
 fn mark(marks: &mut [u8], place: usize) -> bool
     requires { place < 8 * length marks.old }
     ensures length { length marks.new ≡ length marks.old }

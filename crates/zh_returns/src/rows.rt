@@ -11,10 +11,10 @@ use crate::row::{ROW_LENGTH, Row, row_of};
 use crate::row_checks::{are_numbered, have_own_keys};
 use std::marker::Model;
 
-/// The most rows of a batch.
+/// The greatest number of rows of a batch.
 pub const MOST_ROWS: usize = 1_000;
 
-/// The rows of a batch, seen through their bytes: 1 to 1,000 returns, each with a key of its own.
+/// The rows of a batch, as a view of their bytes: 1 to 1,000 returns, no two with the same key.
 #[derive(Drop)]
 pub struct Rows<'a> {
     bytes: &'a [u8],
@@ -34,7 +34,7 @@ impl<'a> Model for Rows<'a> {
 }
 
 impl<'a> Rows<'a> {
-    /// The rows that these bytes stand for.
+    /// The rows that these bytes spell.
     pub(crate) fn new(bytes: &'a [u8]) -> Rows<'a>
         requires spelling { flat_map row_spelling (rows_in bytes.now) ≡ bytes.now }
         requires batch { IsBatch (rows_in bytes.now) }
@@ -43,7 +43,7 @@ impl<'a> Rows<'a> {
         Rows { bytes }
     }
 
-    /// The rows of a batch that have these bytes, if there are such rows.
+    /// The rows of a batch that these bytes spell. None if they do not spell a batch.
     pub(crate) fn read(bytes: &'a [u8]) -> Option<Rows<'a>>
         ensures { Decodes IsBatch (flat_map row_spelling) bytes.now result }
     {
@@ -57,7 +57,7 @@ impl<'a> Rows<'a> {
         Some(Rows { bytes })
     }
 
-    /// How many rows there are.
+    /// The number of rows, 1 to 1,000.
     pub fn len(&self) -> usize
         ensures count { result ≡ length self.now }
         ensures batch { IsBatch self.now }
@@ -75,7 +75,7 @@ impl<'a> Rows<'a> {
         row_of(&bytes[at..at + ROW_LENGTH])
     }
 
-    /// The bytes of the rows, one after the other.
+    /// The bytes of the rows, one after another.
     pub(crate) fn bytes(&self) -> &'a [u8]
         ensures { result.now ≡ flat_map row_spelling self.now }
     {

@@ -16,8 +16,8 @@ use crate::row::Row;
 use crate::rows::Rows;
 
 impl<'s> Count<'s> {
-    /// Applies a command, which has been judged and is accepted, to the count, and counts it. What is then held under its
-    /// keys has its origin; of a batch only the rows that are accepted do.
+    /// Applies an accepted command to the count and counts it. The entries that it puts into the count have its origin. Of a
+    /// batch, only the accepted rows are put.
     pub fn apply(&mut self, command: &Command<'_>)
         requires origin { IsOriginOf Format.Two (origin_of command.now) }
         requires accept { judge self.old command.now ≡ Accept }
@@ -47,7 +47,7 @@ impl<'s> Count<'s> {
         self.count_accepted();
     }
 
-    /// Puts the entries of rows that are accepted over what is held. The others are held already.
+    /// Puts the entries of the accepted rows into the count. The other rows are already held.
     fn put_rows(&mut self, origin: Origin, rows: &Rows<'_>)
         requires origin { IsOriginOf Format.Two origin }
         requires accept { of_all (map (judge_row self.old) rows.now) ≡ Accept }
@@ -55,14 +55,14 @@ impl<'s> Count<'s> {
     {
         for i in 0..rows.len() {
             let row = rows.get(i);
-            // The verdict is that against the count before the batch, since each row has a key of its own.
+            // The verdict is the same as before the batch, since no two rows have the same key.
             if self.accepts(row) {
                 self.put_row(origin, row);
             }
         }
     }
 
-    /// Puts the entry of a row over what is held.
+    /// Puts the entry of a row into the count, in place of what is held.
     fn put_row(&mut self, origin: Origin, row: Row)
         requires origin { IsOriginOf Format.Two origin }
         requires stand { MayStand self.old.canton row }

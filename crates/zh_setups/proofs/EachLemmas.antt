@@ -1,4 +1,4 @@
--- Reading values one after the other, as a loop does.
+-- Reading values one after another, as a loop does.
 use Rattle.std.proofs.Common.{◌≡◌, ◌==◌, ℕ, zero, suc, add-zero, add-one, ◌+◌, ◌<◌, List, [], ◌∷◌, ◌++◌, length, get_or, drop, map, Option}
 use Rattle.std.proofs.Common.{Some, None, Result, Ok, Err, option_map, refl, sym, ap, ◌∙◌, append_assoc, arith}
 use Rattle.std.proofs.lemmas.List.{drop_more}
@@ -11,11 +11,11 @@ use Rattle.zh_setups.specs.Outcomes.{Fails, within_range}
 use Rattle.zh_setups.specs.declared.text.SetupFault.{SetupFault}
 use Rattle.zh_setups.specs.declared.text.SetupFault.TheVariants.{Memory, Range}
 
--- what was read before, and what is still read
+-- the values read so far, followed by those still to be read
 abbrev pub joined : {X : Type 0} → List X → Option (List X) → Option (List X)
 joined front wanted = option_map (λ xs. front ++ xs) wanted
 
--- what is within its range
+-- a value that is within its range
 pub said_ok : {X : Type 0} (o : Option X) (x : X) → within_range o ≡ Ok x → o ≡ Some x
 said_ok None x e = absurd cc
 said_ok (Some y) x e = cc
@@ -24,13 +24,13 @@ said_ok (Some y) x e = cc
 pub same_fault : {X : Type 0} (a b : SetupFault) → ◌≡◌ {A = Result X SetupFault} (Err a) (Err b) → a ≡ b
 same_fault a b e = cc
 
--- the fault of a range stands where no value is left
+-- the fault `Range` is the wanted one if no value is left
 pub fails_within : {X Y : Type 0} (fault : SetupFault) (o : Option X) (wanted : Result Y SetupFault) → (o ≡ None → wanted ≡ Err Range) → Fails fault (within_range o) → Fails fault wanted
 fails_within Memory o wanted h e = tt
 fails_within fault None wanted h e = h refl ∙ ap (λ (f : SetupFault). Err f) (same_fault Range fault e)
 fails_within fault (Some x) wanted h e = absurd cc
 
--- a fault goes through where no value is left
+-- a fault is passed on if no value is left
 pub fails_through : {X Y : Type 0} (fault : SetupFault) (o : Option X) (p : Option Y) → (o ≡ None → p ≡ None) → Fails fault (within_range o) → Fails fault (within_range p)
 fails_through fault o p h e = fails_within fault o (within_range p) (λ none. ap within_range (h none)) e
 
@@ -38,7 +38,7 @@ regroup : {X : Type 0} (front : List X) (x : X) (wanted : Option (List X)) → j
 regroup front x None = refl
 regroup front x (Some xs) = ap (λ ys. Some ys) (simp append_assoc)
 
--- the value at place i, and those after it
+-- the value at place i, and the values after it
 turn : {X : Type 0} (f : Data → Option X) (vs : List Value) (i : ℕ) (v : Value) → i < length vs → v ≡ get_or vs i v
     → each f (map view (drop i vs)) ≡ (f (view v) >>= λ x. each f (map view (drop (i + 1) vs)) >>= λ xs. Some (x ∷ xs))
 turn f vs i v within v_is = rw (drop_more vs i v within, ← v_is) refl

@@ -1,4 +1,4 @@
--- What fails a check is found: among keys, among tables, and among names.
+-- A check that fails is found: among keys, among tables, and among names.
 use Rattle.std.proofs.Common.{◌≡◌, ◌+◌, ℕ, Bool, true, false, cond, not, ◌&&◌, ◌||◌, List, [], ◌∷◌, ◌++◌, Option, Some, None, refl, sym, ap, ◌∙◌, inl, inr}
 use Rattle.std.specs.Prelude.{is_some}
 use Rattle.std.specs.List.{list_all, list_any}
@@ -20,7 +20,7 @@ next_key : (b : Bool) (key : Key) (rest : List (Key × Bool)) → (b && list_all
 next_key true key rest h more = more h
 next_key false key rest h more = refl
 
--- among checks of which one fails
+-- a key is found if one of the checks fails
 pub key_found : (checks : List (Key × Bool)) → list_all (λ check. check.1) checks ≡ false → is_some (first_failing checks) ≡ true
 key_found [] h = absurd cc
 key_found (check ∷ checks) h = next_key check.1 check.0 checks h (λ rest. key_found checks rest)
@@ -33,7 +33,7 @@ table_later : (found : Option Key) (kind : Kind) (number : ℕ) (rest : Option F
 table_later None kind number rest h = h
 table_later (Some key) kind number rest h = refl
 
--- among tables of which one fails
+-- a table is found if one of the tables fails
 pub table_found : (key : Data → Option Key) (passes : Data → Bool) → ((value : Data) → passes value ≡ false → is_some (key value) ≡ true)
     → (kind : Kind) (number : ℕ) (values : List Data) → list_all passes values ≡ false
     → is_some (first_table key kind number values) ≡ true
@@ -51,7 +51,7 @@ pub in_second : (a b : Option FaultPlace) → is_some b ≡ true → is_some (op
 in_second None b h = h
 in_second (Some place) b h = refl
 
--- one of some passes a test: not all fail it
+-- if one value passes a test, not all fail it
 pub any_fails : {X : Type 0} (p : X → Bool) (xs : List X) → list_any p xs ≡ true → list_all (λ x. not (p x)) xs ≡ false
 any_fails p [] h = absurd cc
 any_fails p (x ∷ xs) h = one (p x) (list_any p xs) (list_all (λ y. not (p y)) xs) h (any_fails p xs)
@@ -69,7 +69,7 @@ same_either_way xs ys = elim (cases_Bool (bytes_eq xs ys)) [
   ]
 ]
 
--- whether one before has the name of a value
+-- whether an earlier value has the name of this one
 seen : List Data → Data → Bool
 seen before value = list_any (same_name value) before
 
@@ -123,6 +123,6 @@ unfolding seen
 none_seen [] = refl
 none_seen (value ∷ values) = none_seen values
 
--- among tables of which two have one name
+-- a table is found if two of the tables have the same name
 pub namesake_found : (kind : Kind) (values : List Data) → repeats same_name values ≡ true → is_some (first_namesake kind 1 [] values) ≡ true
 namesake_found kind values h = namesake_among kind 1 [] values (ap (λ b. b || list_any (seen []) values) h)

@@ -17,7 +17,7 @@ passed Less d found e = refl
 passed Equal d found e = absurd cc
 passed Greater d found e = refl
 
--- a key that is not among the known ones does not stand there
+-- a table does not have a key that is not known
 no_member : (keys : List (List ℕ)) (key : List ℕ) (members : Members) → knows_keys keys members ≡ true → list_any (λ known. bytes_eq known key) keys ≡ false → get_member key members ≡ None
 no_member keys key no_members knows other = refl
 no_member keys key (member here d members) knows other =
@@ -39,13 +39,13 @@ knows_top document e =
     let top = knows_keys (known_keys document) document in
     (and_parts top cs (and_parts (top && cs) ms (and_parts (top && cs && ms) gs (not-false (top && cs && ms && gs) e)).0).0).0
 
--- version 1 does not know that of a canton-wide quorum
+-- version 1 does not know the key of a canton-wide quorum
 pub no_quorum_key : (document : Members) → HasVersion document 1 → knows_keys (known_keys document) document ≡ true → get_member (codes "canton_quorum") document ≡ None
 no_quorum_key document version knows =
     let keys : known_keys document ≡ document_keys = rw version refl in
     no_member document_keys (codes "canton_quorum") document (subst (λ (keys : List (List ℕ)). knows_keys keys document ≡ true) keys knows) refl
 
--- the first key that is not one of these, where a table begins with such a key, and where it does not
+-- the first key that is not in the list: if the table begins with it, and if the table begins with a known key
 pub other_here : (keys : List (List ℕ)) (key : List ℕ) (d : Data) (others : Members) (known : Bool) → known ≡ list_any (λ k. bytes_eq k key)
     keys → known ≡ false → Some key ≡ first_other keys (member key d others)
 other_here keys key d others known is other = rw (sym is, other) refl

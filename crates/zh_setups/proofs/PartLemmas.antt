@@ -1,11 +1,11 @@
--- The parts of a set-up that a document says.
+-- The parts of the set-up that a document describes.
 use Rattle.std.proofs.Common.{◌≡◌, ℕ, List, length, Option, Some, codes, subst}
 use Rattle.toml.specs.Data.{Members, get_member}
 use Rattle.zh_districts.specs.Canton.{Canton, Constituency, Municipality, Group}
 use Rattle.zh_setups.specs.Document.{◌>>=◌, number_within, each, values_at, constituency_from, municipality_from, group_from, quorum_of, setup_of}
 use Rattle.zh_setups.proofs.ValueLemmas.{bind_some, some_is}
 
--- each says its part
+-- each part of the set-up is read from the document
 pub record Parts (document : Members) (canton : Canton) : Type 0 where
   pub version : ℕ
   pub version_is : (get_member (codes "version") document >>= number_within 1 2) ≡ Some version

@@ -1,4 +1,4 @@
--- Each fault of a document has a place in it.
+-- Every fault of a document has a place in it.
 use Rattle.std.proofs.Common.{◌≡◌, ℕ, Bool, true, false, cond, not, ◌&&◌, ◌||◌, List, Option, Some, None, option_map, Err, codes, refl, ap, subst}
 use Rattle.std.specs.Prelude.{is_some}
 use Rattle.std.specs.List.{list_all, list_any}
@@ -18,11 +18,11 @@ use Rattle.zh_setups.specs.declared.place.Kind.TheVariants as kinds
 use Rattle.zh_setups.proofs.EachLemmas.{same_fault}
 use Rattle.zh_setups.proofs.FoundLemmas.{any_fails, in_first, in_second, key_found, namesake_found, table_found}
 
--- a fault has a place
+-- the fault has a place
 abbrev pub HasPlace : SetupFault → Members → Type 0
 HasPlace fault document = is_some (fault_place fault document) ≡ true
 
--- what is found at the top, and in the tables of a kind
+-- the places found at the top and in the tables of each kind
 abbrev top : SetupFault → Members → Option FaultPlace
 top fault document = option_map places.Top (first_failing (top_checks fault document))
 
@@ -61,11 +61,11 @@ in_groups fault document h =
     (in_second (of_constituencies fault document) (option_or (of_municipalities fault document) (of_groups fault document))
     (in_second (of_municipalities fault document) (of_groups fault document) h))
 
--- the key of a table with this fault
+-- the key with this fault in a table
 abbrev key_in : SetupFault → Kind → Members → Data → Option Key
 key_in fault kind document value = first_failing (table_checks fault kind (constituencies_in document) value)
 
--- one of the tables of a kind fails a test, and what fails it has a key with this fault
+-- one of the tables of a kind fails a test, and a table that fails it has a key with this fault
 pub in_tables : (fault : SetupFault) (kind : Kind) (key : List ℕ) (document : Members) (passes : Data → Bool)
     → ((value : Data) → passes value ≡ false → list_all (λ check. check.1) (table_checks fault kind (constituencies_in document) value)
     ≡ false) → list_all passes (looked_into fault key document) ≡ false
@@ -74,7 +74,7 @@ in_tables fault kind key document passes says h =
     in_second (namesake_of fault kind (looked_into fault key document)) (first_table (key_in fault kind document) kind 1 (looked_into fault key document))
     (table_found (key_in fault kind document) passes (λ value e. key_found (table_checks fault kind (constituencies_in document) value) (says value e)) kind 1 (looked_into fault key document) h)
 
--- ---- keys that are missing, and others
+-- ---- missing and unknown keys
 
 one_fails : (P : Type 0) (a b c d : Bool) → (a ≡ false → P) → (b ≡ false → P) → (c ≡ false → P) → (d ≡ false → P) → not (a && b && c && d) ≡ true → P
 one_fails P false b c d of_a of_b of_c of_d h = of_a refl
@@ -108,7 +108,7 @@ unknown_placed document h =
     (in_tables faults.Unknown kinds.Group (codes "group") document (knows_keys_of (own_keys kinds.Group))
     (λ value. alone (knows_keys_of (own_keys kinds.Group) value)) e)) h
 
--- ---- what stands twice
+-- ---- repeated names and numbers
 
 one_holds : (P : Type 0) (a b c d : Bool) → (a ≡ true → P) → (b ≡ true → P) → (c ≡ true → P) → (d ≡ true → P) → (a || b || c || d) ≡ true → P
 one_holds P true b c d of_a of_b of_c of_d h = of_a refl
@@ -117,7 +117,7 @@ one_holds P false false true d of_a of_b of_c of_d h = of_c refl
 one_holds P false false false true of_a of_b of_c of_d h = of_d refl
 one_holds P false false false false of_a of_b of_c of_d h = absurd cc
 
--- two tables of one kind have one name
+-- two tables of one kind have the same name
 in_names : (kind : Kind) (key : List ℕ) (document : Members) → repeats same_name (tables_at key document) ≡ true → is_some (first_of faults.Double kind key document) ≡ true
 in_names kind key document h =
     in_first (namesake_of faults.Double kind (tables_at key document))

@@ -1,4 +1,4 @@
--- A value that is out of its range has a place in its document.
+-- A value that is out of range has a place in its document.
 use Rattle.std.proofs.Common.{◌≡◌, ◌<◌, ℕ, Bool, true, false, cond, ◌&&◌, nat_le, List, [], ◌∷◌, length, get_or, min, Option, Some, None, Err, codes, refl, sym, ap, subst, ◌∙◌, arith}
 use Rattle.std.specs.Prelude.{is_some, unwrap_or}
 use Rattle.std.specs.List.{list_all}
@@ -25,7 +25,7 @@ right_false : (a b : Bool) → b ≡ false → (a && b) ≡ false
 right_false true b h = h
 right_false false b h = refl
 
--- a value that says nothing is found
+-- a value that can't be read is found
 each-none : {X : Type 0} (f : Data → Option X) (values : List Data) → each f values ≡ None → list_all (λ value. is_some (f value)) values ≡ false
 each-none f [] e = absurd cc
 each-none f (value ∷ values) e =
@@ -65,14 +65,14 @@ group_fails n value h =
     let made : List ℕ → List ℕ → Group = λ name numbers. record { name = name; stands = stands_of n numbers } in
     three n (get (codes "name") value >>= name_of) (get (codes "stands") value >>= values_of) made h
 
--- the values that were read are those that are looked into
+-- the values that were read are those that are checked for a place
 under : (key : List ℕ) (most : ℕ) (document : Members) (values : List Data) → values_at key most document ≡ Some values → values_under key document ≡ values
 under key most document values e =
     let a = bind_some (get_member key document >>= values_of) (λ all. cond (nat_le (length all) most) (Some all) None) values e in
     let g = guard_some (nat_le (length a.0) most) a.0 values a.2 in
     ap (λ (o : Option (List Data)). unwrap_or o []) a.1 ∙ g.1
 
--- a value of a kind that says nothing is placed there
+-- a value of a kind that can't be read has a place there
 values_fail : {X : Type 0} (kind : Kind) (key : List ℕ) (most : ℕ) (document : Members) (read : Data → Option X) (values : List Data)
     → ((value : Data) → is_some (read value) ≡ false → list_all (λ check. check.1) (table_checks faults.Range kind (constituencies_in document) value) ≡ false)
     → values_at key most document ≡ Some values → each read values ≡ None → is_some (first_of faults.Range kind key document) ≡ true
@@ -84,7 +84,7 @@ values_fail kind key most document read values says found none =
 fails_at : (document : Members) (place : ℕ) → place < 6 → (get_or (top_checks faults.Range document) place (keys.Name, true)).1 ≡ false → HasPlace faults.Range document
 fails_at document place within h = at_top faults.Range document (list_all_at (λ check. check.1) (top_checks faults.Range document) place (keys.Name, true) within h)
 
--- the constituencies that were read are as many as there are
+-- as many constituencies were read as there are in the document
 as_many : (document : Members) (constituencies : List Constituency)
     → (values_at (codes "constituency") 32 document >>= each constituency_from) ≡ Some constituencies → length constituencies
     ≡ constituencies_in document
@@ -144,7 +144,7 @@ range_placed document e =
     made_of : ℕ → List Constituency → List Municipality → List Group → Option ℕ → Canton
     made_of h cs ms gs q = record { house = h; constituencies = cs; municipalities = ms; groups = gs; canton_quorum = q }
 
--- each fault of a document, unless memory ran out, has a place in it
+-- every fault of a document has a place in it
 pub fault_placed : (document : Members) (fault : SetupFault) → checked document ≡ Err fault → is_some (fault_place fault document) ≡ true
 fault_placed document fault e =
     by_check (λ fault. HasPlace fault document) (misses_key document) (has_other_key document) (has_double document) (setup_of document) fault

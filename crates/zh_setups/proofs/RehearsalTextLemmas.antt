@@ -1,4 +1,4 @@
--- The rehearsal's text stands for its set-up.
+-- The text of the rehearsal describes the rehearsal's set-up.
 use Rattle.std.proofs.Common.{◌≡◌, ℕ, List, pos, Some, Result, Ok, Err, codes, refl, ◌∙◌, sym, lit≤}
 use Rattle.toml.specs.Data.{Data, Members, no_items, item, no_members, member, string, integer, array, table}
 use Rattle.toml.specs.Parse.{parse_document}
@@ -69,14 +69,14 @@ fails fault = Err fault
 same_ok : (x y : Canton) → gives x ≡ gives y → x ≡ y
 same_ok x y e = cc
 
--- what the text says is the set-up of the rehearsal
+-- a set-up that is read from the text is that of the rehearsal
 pub is_rehearsal : (setup : Canton) → reading_of rehearsal_text ≡ Ok setup → setup ≡ rehearsal
 is_rehearsal setup e =
     let text = rehearsal_text in
     let read = reading_of-table text rehearsal_table (lit≤ tt) (IsUtf8-from_is_utf8 text (ascii text refl)) parsed in
     same_ok setup rehearsal (sym e ∙ read ∙ checks)
 
--- and no fault
+-- the text has no fault
 pub is_no_fault : (fault : SetupFault) → reading_of rehearsal_text ≡ Err fault → ⊥
 is_no_fault fault e =
     let text = rehearsal_text in

@@ -1,4 +1,4 @@
--- The set-up that a document says.
+-- The set-up that a document describes.
 use Rattle.std.proofs.Common.{◌≡◌, ℕ, ◌≤◌, true, false, ◌||◌, List, length, map, All, Option, Some, None, codes, refl, subst, arith}
 use Rattle.std.specs.Prelude.{Contains, IfSome}
 use Rattle.std.specs.List.{list_any}
@@ -66,7 +66,7 @@ quorum_of-bounds (Some value) quorum e =
     let n = bind_some (number_within 1 49 value) (λ q. Some (Some q)) quorum e in
     subst (λ (o : Option ℕ). IfSome o (λ q. (1 ≤ q) × (q ≤ 49))) (some_is (Some n.0) quorum n.2) (number_within-bounds 1 49 value n.0 n.1)
 
--- a set-up that a document says, with nothing twice, is one within the limits
+-- a set-up that a document describes is within the limits if nothing in it is double
 pub IsCanton-from_document : (document : Members) (canton : Canton) → setup_of document ≡ Some canton → has_double document ≡ false → IsCanton canton
 IsCanton-from_document document canton e single =
     let parts = parts_said document canton e in
@@ -96,7 +96,7 @@ IsCanton-from_document document canton e single =
       canton_quorum = quorum_of-bounds (get_member (codes "canton_quorum") document) canton.canton_quorum parts.quorum;
     }
 
--- where the municipalities, or the groups, say nothing, there is no set-up
+-- if the municipalities, or the groups, can't be read, there is no set-up
 pub no_municipalities : (document : Members) (v h n : ℕ) (cs : List Constituency)
     → (get_member (codes "version") document >>= number_within 1 2) ≡ Some v → (get_member (codes "house") document >>= number_within 1 400) ≡ Some h
     → (values_at (codes "constituency") 32 document >>= each constituency_from) ≡ Some cs → length cs ≡ n
@@ -109,14 +109,14 @@ pub no_groups : (document : Members) (v h n : ℕ) (cs : List Constituency) (ms 
     → (values_at (codes "group") 32 document >>= each (group_from n)) ≡ None → setup_of document ≡ None
 no_groups document v h n cs ms e f g len m none = rw (e, f, g, len, m, none) refl
 
--- nor where the canton-wide quorum does
+-- the same if the canton-wide quorum can't be read
 pub no_quorum : (document : Members) (v h n : ℕ) (cs : List Constituency) (ms : List Municipality) (gs : List Group) → (get_member (codes "version") document >>= number_within 1 2) ≡ Some v
     → (get_member (codes "house") document >>= number_within 1 400) ≡ Some h → (values_at (codes "constituency") 32 document >>= each constituency_from) ≡ Some cs → length cs ≡ n
     → (values_at (codes "municipality") 512 document >>= each (municipality_from n)) ≡ Some ms → (values_at (codes "group") 32 document >>= each (group_from n)) ≡ Some gs
     → quorum_of (get_member (codes "canton_quorum") document) ≡ None → setup_of document ≡ None
 no_quorum document v h n cs ms gs e f g len m k none = rw (e, f, g, len, m, k, none) refl
 
--- the set-up of its parts
+-- the set-up that is made of its parts
 pub setup_read : (document : Members) (v h n : ℕ) (cs : List Constituency) (ms : List Municipality) (gs : List Group) (q : Option ℕ)
     → (get_member (codes "version") document >>= number_within 1 2) ≡ Some v
     → (get_member (codes "house") document >>= number_within 1 400) ≡ Some h → (values_at (codes "constituency") 32 document >>= each constituency_from) ≡ Some cs → length cs ≡ n

@@ -1,4 +1,4 @@
--- What a text says, by what was made of it.
+-- What a text describes, by what was parsed from it.
 use Rattle.std.proofs.Common.{◌≡◌, ◌≢◌, ℕ, ◌≤◌, true, leb, List, length, Some, None, Result, Ok, Err, refl, le-leb, inl, inr}
 use Rattle.std.specs.Prelude.{IfErr, IsUtf8}
 use Rattle.std.specs.Str.{is_utf8}
@@ -13,14 +13,14 @@ use Rattle.zh_setups.specs.SetupText.{reading_of}
 use Rattle.zh_setups.specs.declared.text.SetupFault.{SetupFault}
 use Rattle.zh_setups.specs.declared.text.SetupFault.TheVariants.{Memory, Text, Missing, Unknown, Range, Double}
 
--- a text that stands for a table
+-- a text that parses to a table
 pub reading_of-table : (text : List ℕ) (document : Members) → length text ≤ 1048576 → IsUtf8 text → parse_document text ≡ Some document → reading_of text ≡ checked document
 reading_of-table text document short utf8 read =
     let fits : leb (length text) 1048576 ≡ true = le-leb (length text) 1048576 short in
     let is_text : is_utf8 text ≡ true = is_utf8-from_IsUtf8 text utf8 in
     rw (fits, is_text, read) refl
 
--- a text that stands for none
+-- a text that does not parse
 pub reading_of-none : (text : List ℕ) → length text ≤ 1048576 → (IsUtf8 text → parse_document text ≡ None) → reading_of text ≡ Err Text
 reading_of-none text short none =
     let fits : leb (length text) 1048576 ≡ true = le-leb (length text) 1048576 short in
@@ -29,7 +29,7 @@ reading_of-none text short none =
       | inr is_none ↦ rw (fits, is_none) refl
     ]
 
--- a fault that is returned is wanted, unless memory ran out
+-- a fault that is returned is the wanted one, unless memory was refused
 pub given_fault : (r wanted : Result Canton SetupFault) → Gives (λ s. s) r wanted → IfErr r (λ fault. fault ≢ Memory → wanted ≡ Err fault)
 given_fault (Ok s) wanted h = tt
 given_fault (Err Memory) wanted h = λ other. absurd (other refl)

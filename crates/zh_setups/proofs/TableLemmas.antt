@@ -1,4 +1,4 @@
--- The table of a set-up text holds the set-up, part by part.
+-- The table of a set-up text describes the set-up, part by part.
 use Rattle.std.proofs.Common.{◌≡◌, ℕ, ◌≤◌, Bool, true, false, cond, nat_le, List, length, map, Option, Some, None, option_map}
 use Rattle.std.proofs.Common.{option_and_then, Result, Ok, Err, pos, codes, refl, sym, ap, subst, ◌∙◌, inl, inr, arith}
 use Rattle.std.specs.Prelude.{◌⊎◌, IfOk}
@@ -17,7 +17,7 @@ use Rattle.zh_setups.proofs.PartLemmas.{parts_said}
 use Rattle.zh_setups.proofs.ValueLemmas.{bind_some, some_is, guard_some, name_of-some, number_within-bounds, number_within-some, HasName, each-holds, each-named}
 use Rattle.zh_setups.proofs.ValueLemmas.{values_at-some, constituency_from-some, constituency_said, municipality_from-some, municipality_said, group_from-some, group_said}
 
--- the value of a number, or of a name, that was found
+-- the value of a number, or of a name, that was read
 number_found : (found : Option Data) (low high n : ℕ) → (found >>= number_within low high) ≡ Some n → found ≡ Some (integer (pos n))
 number_found found low high n e =
     let b = bind_some found (number_within low high) n e in
@@ -38,7 +38,7 @@ municipality_from-holds n d x e =
     let said = municipality_said n d x e in
     (name_found (get (codes "name") d) x.name said.0, number_found (get (codes "constituency") d) 1 n x.constituency said.1)
 
--- numbers that were read stand there as they are
+-- the numbers that were read are the values as they are in the text
 each_number : (low high : ℕ) (ds : List Data) (ns : List ℕ) → each (number_within low high) ds ≡ Some ns → ds ≡ map (λ n. integer (pos n)) ns
 each_number low high ds ns e =
     each-holds (λ d n. d ≡ integer (pos n)) (number_within low high) (λ d n e. (number_within-some low high d n e).0) (λ ds ns. ds ≡ map (λ n. integer (pos n)) ns) refl
@@ -50,7 +50,7 @@ values_of-is d ds e =
     let g = guard_some (nat_le 1 (length (list_of a.0))) (list_of a.0) ds a.2 in
     rw (a.1, g.1) refl
 
--- the values of an array that was found
+-- the values of an array that was read
 values_found : (found : Option Data) (ds : List Data) → (found >>= values_of) ≡ Some ds → option_map list_of (option_and_then as_array found) ≡ Some ds
 values_found None ds e = absurd cc
 values_found (Some d) ds e = values_of-is d ds e
@@ -73,7 +73,7 @@ zipped key most name R f named holds document xs e =
     let all : AllZip R a.0 xs = each-holds R f holds (λ ds ys. AllZip R ds ys) tt (λ d x ds ys h others. (h, others)) a.0 xs a.2 in
     subst (λ (ds : List Data). AllZip R ds xs) (sym (v.2 n.kind)) all
 
--- a canton-wide quorum that was read, or was not there
+-- a canton-wide quorum that was read, or was absent
 quorum_found : (found : Option Data) (quorum : Option ℕ) → quorum_of found ≡ Some quorum → found ≡ option_map (λ q. integer (pos q)) quorum
 quorum_found None quorum e = ap (option_map (λ q. integer (pos q))) (some_is None quorum e)
 quorum_found (Some value) quorum e =
@@ -89,7 +89,7 @@ no_quorum_in_version_1 document quorum version knows e =
 one_or_two : (n : ℕ) → 1 ≤ n → n ≤ 2 → (n ≡ 1) ⊎ (n ≡ 2)
 one_or_two n low high = elim (cases_lt n 2) [ inl less ↦ inl (omega arith) | inr not_less ↦ inr (omega arith) ]
 
--- the version of a document, and whether it has a canton-wide quorum
+-- the version of a document, which decides whether it can have a canton-wide quorum
 version_of : (document : Members) (n : ℕ) (quorum : Option ℕ) → (get_member (codes "version") document >>= number_within 1 2) ≡ Some n → knows_keys (known_keys document) document ≡ true
     → quorum_of (get_member (codes "canton_quorum") document) ≡ Some quorum → (HasVersion document 1 × (quorum ≡ None)) ⊎ HasVersion document 2
 version_of document n quorum e knows q =
@@ -117,7 +117,7 @@ SetupOf-from_document document canton other e =
       canton_quorum = quorum_found (get_member (codes "canton_quorum") document) canton.canton_quorum parts.quorum;
     }
 
--- what passes each check is the set-up
+-- if every check passes, the result is the set-up
 passes : (misses other double : Bool) (wanted : Option Canton) (canton : Canton)
     → cond misses (Err Missing) (cond other (Err Unknown) (undoubled double wanted)) ≡ Ok canton → (other ≡ false) × (wanted ≡ Some canton)
 passes true other double wanted canton e = absurd cc

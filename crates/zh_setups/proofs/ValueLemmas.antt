@@ -1,4 +1,4 @@
--- What is known of the values of a document that say something.
+-- What is known of values of a document that could be read.
 use Rattle.std.proofs.Common.{◌≡◌, ◌≢◌, ℕ, ◌-◌, ◌<◌, ◌≤◌, Bool, true, false, cond, ◌&&◌, ◌==◌, eqb, nat_le, List, [], ◌∷◌, length, get_or}
 use Rattle.std.proofs.Common.{map, All, Option, Some, None, pos, IsTrue, codes, refl, sym, ap, subst, ◌∙◌, arith, eq-eqb}
 use Rattle.std.specs.Prelude.{AllPairs, Contains}
@@ -13,7 +13,7 @@ use Rattle.zh_districts.specs.Canton.{Constituency, Municipality, Group, is_name
 use Rattle.zh_setups.specs.Keys.{list_of, is_table, tables_of, tables_at}
 use Rattle.zh_setups.specs.Document.{◌>>=◌, number_within, name_of, each, values_of, values_at, constituency_from, municipality_from, group_from, stands_of, name_in, same_name, repeats}
 
--- the value of a step that gave one
+-- the value that a successful step gave
 pub bind_some : {A B : Type 0} (o : Option A) (f : A → Option B) (y : B) → (o >>= f) ≡ Some y → (x : A) × (o ≡ Some x) × (f x ≡ Some y)
 bind_some None f y e = absurd cc
 bind_some (Some x) f y e = (x, refl, e)
@@ -47,7 +47,7 @@ is_table-from_get : (key : List ℕ) (d v : Data) → get key d ≡ Some v → i
 is_table-from_get key (table ms) v e = refl
 is_table-from_get key d v e = absurd cc
 
--- a table with a name, and that name
+-- the table has this name
 pub record HasName (d : Data) (name : List ℕ) : Type 0 where
   pub rule : IsTrue (is_name name)
   pub within : name_in d ≡ name
@@ -70,7 +70,7 @@ length-each f (d ∷ ds) xs e =
     let h = length-each f ds b.0 b.1 in
     subst (λ ys. length ys ≡ length (d ∷ ds)) (some_is (a.0 ∷ b.0) xs b.2) (omega arith)
 
--- what holds of each value and what it says
+-- a relation between a value and what it is read as holds for all values of a list
 pub each-holds : {X : Type 0} (R : Data → X → Type 0) (f : Data → Option X) → ((d : Data) (x : X) → f d ≡ Some x → R d x) → (P : List Data → List X → Type 0) → P [] []
     → ((d : Data) (x : X) (ds : List Data) (xs : List X) → R d x → P ds xs → P (d ∷ ds) (x ∷ xs)) → (ds : List Data) (xs : List X) → each f ds ≡ Some xs → P ds xs
 each-holds R f says P none more [] xs e = subst (λ ys. P [] ys) (some_is [] xs e) none
@@ -82,7 +82,7 @@ each-holds R f says P none more (d ∷ ds) xs e =
 pub each-all : {X : Type 0} (P : X → Type 0) (f : Data → Option X) → ((d : Data) (x : X) → f d ≡ Some x → P x) → (ds : List Data) (xs : List X) → each f ds ≡ Some xs → All P xs
 each-all P f says ds xs e = All-from_recursion P xs (each-holds (λ d x. P x) f says (λ ds xs. AllByRecursion P xs) tt (λ d x ds xs h all. (h, all)) ds xs e)
 
--- the parts of one kind have names, and stand in tables
+-- the values of one kind: all are tables, and these are their names, which obey the rule of names
 pub record Named {X : Type 0} (name : X → List ℕ) (ds : List Data) (xs : List X) : Type 0 where
   pub rule : AllByRecursion (λ n. IsTrue (is_name n)) (map name xs)
   pub names : map name xs ≡ map name_in ds
@@ -94,7 +94,7 @@ each-named name f says ds xs e =
     each-holds (λ d x. HasName d (name x)) f says (λ ds xs. Named name ds xs) (record { rule = tt; names = refl; kind = refl })
     (λ d x ds xs h named. record { rule = (h.rule, named.rule); names = rw (h.within, named.names) refl; kind = rw (h.kind, named.kind) refl }) ds xs e
 
--- names none of which is repeated
+-- names without a repeat
 differs : (x : Data) (ds : List Data) → list_any (same_name x) ds ≡ false → AllByRecursion (λ n. name_in x ≢ n) (map name_in ds)
 differs x [] h = tt
 differs x (d ∷ ds) h =
@@ -133,7 +133,7 @@ values_at-some key most document ds e =
 
 -- ---- the parts
 
--- what a table says of each part of a constituency, and of a municipality
+-- what a table says about each part of a constituency, and of a municipality
 pub constituency_said : (d : Data) (x : Constituency) → constituency_from d ≡ Some x
     → ((get (codes "name") d >>= name_of) ≡ Some x.name) × ((get (codes "persons") d >>= number_within 1 10000000) ≡ Some x.persons)
 constituency_said d x e =
@@ -164,7 +164,7 @@ municipality_from-some n d x e =
     let bounds = number_within-bounds 1 n found.0 x.constituency found.2 in
     (has_name d x.name said.0, bounds.0, bounds.1)
 
--- the first number of a list within 1 to n names a place where the group stands
+-- the first number of the list is from 1 to n, so the group stands in that constituency
 stands_somewhere : (n : ℕ) (numbers : List ℕ) → 1 ≤ length numbers → All (λ m. (1 ≤ m) × (m ≤ n)) numbers → Contains (stands_of n numbers) true
 stands_somewhere n [] some all = absurd (omega arith)
 stands_somewhere n (m ∷ numbers) some all =
@@ -175,7 +175,7 @@ stands_somewhere n (m ∷ numbers) some all =
     let here : eqb m m ≡ true = eq-eqb m m refl in
     (m - 1, omega (arith, length-map-range_with_len (λ d. list_any (λ i. i == d) (m ∷ numbers)) 1 n), at ∙ rw here refl)
 
--- what a table says of each part of a group
+-- what a table says about each part of a group
 pub record SaidGroup (n : ℕ) (d : Data) (x : Group) : Type 0 where
   pub name : (get (codes "name") d >>= name_of) ≡ Some x.name
   pub values : List Data

@@ -1,4 +1,4 @@
--- The set-up that a set-up text says, from the table that the text stands for.
+-- The set-up that a text describes, computed from the text's TOML table.
 use Rattle.std.specs.Prelude.{ℕ, Bool, false, ◌&&◌, ◌||◌, ◌==◌, nat_le, if◌then◌else◌, ℤ, pos, List, [], ◌∷◌, length}
 use Rattle.std.specs.Prelude.{map, Option, Some, None, option_and_then, Result, Ok, Err, codes}
 use Rattle.std.specs.List.{list_any, range_with_len}
@@ -11,7 +11,7 @@ use Rattle.zh_setups.specs.Keys.{list_of, tables_at, misses_key, has_other_key}
 use Rattle.zh_setups.specs.declared.text.SetupFault.{SetupFault}
 use Rattle.zh_setups.specs.declared.text.SetupFault.TheVariants.{Missing, Unknown, Range, Double}
 
--- the next step, where the one before gave a value
+-- the next step, if the step before gave a value
 infixl 10 ◌>>=◌
 abbrev pub ◌>>=◌ : {A B : Type 0} → Option A → (A → Option B) → Option B
 o >>= f = option_and_then f o
@@ -26,7 +26,7 @@ abbrev pub name_of : Data → Option (List ℕ)
 name_of (string text) = if is_name text then Some text else None
 name_of _ = None
 
--- what each value stands for, where each stands for something
+-- what each value is read as, if each of them can be read
 abbrev pub each : {X : Type 0} → (Data → Option X) → List Data → Option (List X)
 each read [] = Some []
 each read (value ∷ values) = do
@@ -34,37 +34,37 @@ each read (value ∷ values) = do
   others ← each read values
   Some (first ∷ others)
 
--- the values of an array that has one
+-- the values of a non-empty array
 abbrev pub values_of : Data → Option (List Data)
 values_of value = do
   items ← as_array value
   if nat_le 1 (length (list_of items)) then Some (list_of items) else None
 
--- the values at a key of the document, where they are 1 to `most`
+-- the values of the array at a key of the document, if there are 1 to `most` of them
 abbrev pub values_at : List ℕ → ℕ → Members → Option (List Data)
 values_at key most document = do
   values ← get_member key document >>= values_of
   if nat_le (length values) most then Some values else None
 
--- a constituency
+-- the constituency that a table describes
 abbrev pub constituency_from : Data → Option Constituency
 constituency_from value = do
   name ← get (codes "name") value >>= name_of
   persons ← get (codes "persons") value >>= number_within 1 10000000
   Some (record { name = name; persons = persons })
 
--- a municipality, where there are so many constituencies
+-- the municipality that a table describes, given the number of constituencies
 abbrev pub municipality_from : ℕ → Data → Option Municipality
 municipality_from constituencies value = do
   name ← get (codes "name") value >>= name_of
   constituency ← get (codes "constituency") value >>= number_within 1 constituencies
   Some (record { name = name; constituency = constituency })
 
--- for each constituency whether its number is among these
+-- for each constituency, whether its number is in this list
 abbrev pub stands_of : ℕ → List ℕ → List Bool
 stands_of constituencies numbers = map (λ d. list_any (λ n. n == d) numbers) (range_with_len 1 constituencies)
 
--- a group, where there are so many constituencies
+-- the group that a table describes, given the number of constituencies
 abbrev pub group_from : ℕ → Data → Option Group
 group_from constituencies value = do
   name ← get (codes "name") value >>= name_of
@@ -72,14 +72,14 @@ group_from constituencies value = do
   numbers ← each (number_within 1 constituencies) values
   Some (record { name = name; stands = stands_of constituencies numbers })
 
--- a canton-wide quorum in per mille, which stands under a key of its own or nowhere
+-- a canton-wide quorum in per mille, which is optional
 abbrev pub quorum_of : Option Data → Option (Option ℕ)
 quorum_of None = Some None
 quorum_of (Some value) = do
   per_mille ← number_within 1 49 value
   Some (Some per_mille)
 
--- the set-up, where each value is of its kind and within its limits
+-- the set-up, if every value has the right type and is within its limits
 abbrev pub setup_of : Members → Option Canton
 setup_of document = do
   version ← get_member (codes "version") document >>= number_within 1 2
@@ -96,20 +96,20 @@ setup_of document = do
     canton_quorum = canton_quorum;
   })
 
--- a value is the same as a later one
+-- a value is the same as a later one in the list
 abbrev pub repeats : (Data → Data → Bool) → List Data → Bool
 repeats same [] = false
 repeats same (value ∷ values) = list_any (same value) values || repeats same values
 
--- the name in a table
+-- the name in a table, or nothing if it has none
 abbrev pub name_in : Data → List ℕ
 name_in value = unwrap_or (get (codes "name") value >>= as_str) []
 
--- the numbers in the table of a group
+-- the values of the array `stands` in the table of a group
 abbrev pub stands_in : Data → List Data
 stands_in value = unwrap_or (get (codes "stands") value >>= values_of) []
 
--- two tables have one name
+-- two tables have the same name
 abbrev pub same_name : Data → Data → Bool
 same_name a b = bytes_eq (name_in a) (name_in b)
 
@@ -118,11 +118,11 @@ abbrev pub same_integer : Option ℤ → Option ℤ → Bool
 same_integer (Some m) (Some n) = int_eq m n
 same_integer _ _ = false
 
--- two values are one whole number
+-- two values are the same integer
 abbrev pub same_number : Data → Data → Bool
 same_number a b = same_integer (as_integer a) (as_integer b)
 
--- two names of one kind are equal, or a group stands twice in one constituency
+-- two constituencies, two municipalities or two groups share a name, or a group names a constituency twice
 abbrev pub has_double : Members → Bool
 has_double document =
     repeats same_name (tables_at (codes "constituency") document)
@@ -130,12 +130,12 @@ has_double document =
     || repeats same_name (tables_at (codes "group") document)
     || list_any (λ value. repeats same_number (stands_in value)) (tables_at (codes "group") document)
 
--- without a set-up, a value is of another kind or outside its limits; with one, something may stand twice
+-- no set-up means that a value has the wrong type or is out of range; a set-up is refused if it has a double
 abbrev pub undoubled : Bool → Option Canton → Result Canton SetupFault
 undoubled double None = Err Range
 undoubled double (Some canton) = if double then Err Double else Ok canton
 
--- the set-up, or the first fault that is found: each check goes over the whole document before the next
+-- the set-up, or the first fault: each check covers the whole document before the next one
 abbrev pub checked : Members → Result Canton SetupFault
 checked document =
     if misses_key document then Err Missing

@@ -18,11 +18,11 @@ setup_name faults.Unknown = codes "setup unknown"
 setup_name faults.Range = codes "setup range"
 setup_name faults.Double = codes "setup double"
 
--- a key that is not known, cut to 40 bytes; zeros stand after it
+-- an unknown key, cut to at most 40 bytes and padded with zeros to 40
 abbrev pub cut_key : List ℕ → OtherKey
 cut_key key = record { bytes = cut_to 40 key ++ drop (length (cut_to 40 key)) (replicate 40 0); length = length (cut_to 40 key) }
 
--- the name of a key, as a text spells it, or what is kept of it
+-- a key as a text spells it; of an unknown key, the bytes that were kept
 abbrev pub key_name : Key → List ℕ
 key_name keys.Version = codes "version"
 key_name keys.House = codes "house"
@@ -35,7 +35,7 @@ key_name keys.Persons = codes "persons"
 key_name keys.Stands = codes "stands"
 key_name (keys.Other key) = take key.length key.bytes
 
--- the name of the tables of a kind
+-- the key of the array with the tables of a kind
 abbrev pub kind_name : Kind → List ℕ
 kind_name kinds.Constituency = codes "constituency"
 kind_name kinds.Municipality = codes "municipality"

@@ -1,4 +1,4 @@
--- Where a set-up text has its fault: the first key of which a check fails, at the top and then table by table.
+-- The place of a fault in a set-up text: the first key whose check fails, first at the top and then table by table.
 use Rattle.std.specs.Prelude.{◌+◌, ℕ, Bool, false, not, if◌then◌else◌, List, [], ◌∷◌, ◌++◌, length, map, min}
 use Rattle.std.specs.Prelude.{Option, Some, None, is_some, option_map, unwrap_or, codes}
 use Rattle.std.specs.Option.{option_map_or, option_or}
@@ -22,7 +22,7 @@ abbrev pub first_failing : List (Key × Bool) → Option Key
 first_failing [] = None
 first_failing (check ∷ checks) = if check.1 then first_failing checks else Some check.0
 
--- the key by which one that is not known is named
+-- the key of a refusal for an unknown key
 abbrev pub other_key : Option (List ℕ) → Key
 other_key found = keys.Other (cut_key (unwrap_or found []))
 
@@ -30,11 +30,11 @@ other_key found = keys.Other (cut_key (unwrap_or found []))
 abbrev pub number_at_top : List ℕ → ℕ → ℕ → Members → Bool
 number_at_top key low high document = is_some (get_member key document >>= number_within low high)
 
--- whether these are numbers of constituencies, of which there are n
+-- each of these values is the number of a constituency, 1 to n
 abbrev pub are_within : ℕ → List Data → Bool
 are_within n values = list_all (λ value. is_some (number_within 1 n value)) values
 
--- whether the numbers where a group stands are such
+-- a group's `stands` is a non-empty array of such numbers
 abbrev pub stands_within : ℕ → Data → Bool
 stands_within n value = option_map_or (are_within n) (get (codes "stands") value >>= values_of) false
 
@@ -53,24 +53,24 @@ top_checks faults.Unknown document =
     (other_key (first_other (known_keys document) document), knows_keys (known_keys document) document) ∷ []
 top_checks fault document = []
 
--- whether a table has its key beside the name
+-- the key that a table has besides `name`, and whether it is there
 abbrev pub missing_check : Kind → Data → Key × Bool
 missing_check kinds.Constituency value = (keys.Persons, is_some (get (codes "persons") value))
 missing_check kinds.Municipality value = (keys.Constituency, is_some (get (codes "constituency") value))
 missing_check kinds.Group value = (keys.Stands, is_some (get (codes "stands") value))
 
--- whether the value of a table beside its name is within its limits, where there are n constituencies
+-- the key that a table has besides `name`, and whether its value is within its limits, with n constituencies
 abbrev pub range_check : Kind → ℕ → Data → Key × Bool
 range_check kinds.Constituency n value = (keys.Persons, is_some (get (codes "persons") value >>= number_within 1 10000000))
 range_check kinds.Municipality n value = (keys.Constituency, is_some (get (codes "constituency") value >>= number_within 1 n))
 range_check kinds.Group n value = (keys.Stands, stands_within n value)
 
--- whether a group stands nowhere twice
+-- whether a group names no constituency twice; other tables have no such check
 abbrev pub double_checks : Kind → Data → List (Key × Bool)
 double_checks kinds.Group value = (keys.Stands, not (repeats same_number (stands_in value))) ∷ []
 double_checks kind value = []
 
--- the checks of a fault in a table, where there are n constituencies
+-- the checks of a fault in a table, with n constituencies
 abbrev pub table_checks : SetupFault → Kind → ℕ → Data → List (Key × Bool)
 table_checks faults.Missing kind n value = (keys.Name, is_some (get (codes "name") value)) ∷ missing_check kind value ∷ []
 table_checks faults.Range kind n value = (keys.Name, is_some (get (codes "name") value >>= name_of)) ∷ range_check kind n value ∷ []
@@ -79,33 +79,33 @@ table_checks faults.Unknown kind n value =
 table_checks faults.Double kind n value = double_checks kind value
 table_checks fault kind n value = []
 
--- the first of these tables, numbered from here, that has such a key
+-- the first of these tables with a key that `key` finds; the first table has this number
 abbrev pub first_table : (Data → Option Key) → Kind → ℕ → List Data → Option FaultPlace
 first_table key kind number [] = None
 first_table key kind number (value ∷ values) =
     option_map_or (λ found. Some (places.Table kind number found)) (key value) (first_table key kind (number + 1) values)
 
--- the first of these tables, numbered from here, whose name one before it has
+-- the first of these tables that has the same name as an earlier one; the first table has this number
 abbrev pub first_namesake : Kind → ℕ → List Data → List Data → Option FaultPlace
 first_namesake kind number before [] = None
 first_namesake kind number before (value ∷ values) =
     if list_any (same_name value) before then Some (places.Table kind number keys.Name)
     else first_namesake kind (number + 1) (before ++ value ∷ []) values
 
--- the first of these tables with a name that stands twice, if that is the fault
+-- the first of these tables that has the same name as an earlier one, if the fault is `Double`
 abbrev pub namesake_of : SetupFault → Kind → List Data → Option FaultPlace
 namesake_of faults.Double kind values = first_namesake kind 1 [] values
 namesake_of fault kind values = None
 
--- the values of the array at a key, if there is one
+-- the values of the non-empty array at a key; anything else gives none
 abbrev pub values_under : List ℕ → Members → List Data
 values_under key document = unwrap_or (get_member key document >>= values_of) []
 
--- how many constituencies there are, where there are not too many
+-- the number of constituencies, at most 32
 abbrev pub constituencies_in : Members → ℕ
 constituencies_in document = min (length (values_under (codes "constituency") document)) 32
 
--- what is looked into for a fault: each value of an array, or of other faults than a range those of an array of tables
+-- the values to check for a fault: for `Range` those of any array, for other faults only those of an array of tables
 abbrev pub looked_into : SetupFault → List ℕ → Members → List Data
 looked_into faults.Range key document = values_under key document
 looked_into fault key document = tables_at key document

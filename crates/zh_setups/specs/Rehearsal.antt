@@ -5,7 +5,7 @@ use Rattle.zh_districts.specs.Canton.{Canton, Group}
 abbrev pub everywhere : List ℕ → Group
 everywhere name = record { name = name; stands = true ∷ true ∷ true ∷ [] }
 
--- ten seats; Nord, Mitte and West with one municipality each; three groups that stand everywhere; no canton-wide quorum
+-- ten seats; Nord, Mitte and West with one municipality each; three groups that stand in every constituency; no canton-wide quorum
 abbrev pub rehearsal : Canton
 rehearsal = record {
   house = 10;

@@ -1,4 +1,4 @@
--- What a set-up text says.
+-- What a set-up text describes.
 use Rattle.std.specs.Prelude.{◌≡◌, ℕ, ◌&&◌, ◌⊎◌, nat_le, if◌then◌else◌, pos, List, length, map, Some}
 use Rattle.std.specs.Prelude.{None, option_map, option_and_then, Result, Err, codes}
 use Rattle.std.specs.List.{AllZip}
@@ -12,21 +12,21 @@ use Rattle.zh_setups.specs.Document.{stands_of, checked}
 use Rattle.zh_setups.specs.declared.text.SetupFault.{SetupFault}
 use Rattle.zh_setups.specs.declared.text.SetupFault.TheVariants.{Text}
 
--- the set-up of the table that the text stands for in TOML, or the first fault
+-- the set-up in the TOML table that the text parses to, or the first fault
 abbrev pub reading_of : List ℕ → Result Canton SetupFault
 reading_of text = if nat_le (length text) 1048576 && is_utf8 text then option_map_or checked (parse_document text) (Err Text) else Err Text
 
--- a table of this constituency
+-- the table describes this constituency
 abbrev pub ConstituencyOf : Data → Constituency → Type 0
 ConstituencyOf value x = (get (codes "name") value ≡ Some (string x.name)) × (get (codes "persons") value ≡ Some (integer (pos x.persons)))
 
--- a table of this municipality
+-- the table describes this municipality
 abbrev pub MunicipalityOf : Data → Municipality → Type 0
 MunicipalityOf value x =
     (get (codes "name") value ≡ Some (string x.name))
     × (get (codes "constituency") value ≡ Some (integer (pos x.constituency)))
 
--- a table of this group, where there are so many constituencies: it lists the numbers of those where the group stands
+-- the table describes this group, given the number of constituencies: its `stands` lists the numbers of those where the group stands
 abbrev pub GroupOf : ℕ → Data → Group → Type 0
 GroupOf constituencies value x =
     (get (codes "name") value ≡ Some (string x.name))
@@ -38,7 +38,7 @@ GroupOf constituencies value x =
 abbrev pub HasVersion : Members → ℕ → Type 0
 HasVersion document version = get_member (codes "version") document ≡ Some (integer (pos version))
 
--- the table holds the set-up, part by part; a canton-wide quorum needs version 2
+-- the table describes the set-up, part by part; a canton-wide quorum needs version 2
 pub record SetupOf (document : Members) (canton : Canton) : Type 0 where
   pub version : (HasVersion document 1 × (canton.canton_quorum ≡ None)) ⊎ HasVersion document 2
   pub house : get_member (codes "house") document ≡ Some (integer (pos canton.house))
@@ -47,6 +47,6 @@ pub record SetupOf (document : Members) (canton : Canton) : Type 0 where
   pub groups : AllZip (GroupOf (length canton.constituencies)) (tables_at (codes "group") document) canton.groups
   pub canton_quorum : get_member (codes "canton_quorum") document ≡ option_map (λ q. integer (pos q)) canton.canton_quorum
 
--- the text stands for a table that holds the set-up
+-- the text parses to a table that describes the set-up
 abbrev pub Describes : List ℕ → Canton → Type 0
 Describes text canton = (document : Members) × (parse_document text ≡ Some document) × SetupOf document canton

@@ -1,4 +1,4 @@
-//! The checks of a set-up text, key by key: the first that fails names the place of a fault.
+//! The checks of a set-up text, key by key. The first one that fails gives the place of a fault.
 
 ghost use Rattle.std.specs.Prelude.{◌≡◌, map, is_some, option_copied, codes};
 ghost use Rattle.toml.specs.Data.{get, get_member};
@@ -43,7 +43,7 @@ fn number_at_top(document: &Table, key: &str, low: u32, high: u32) -> bool
     }
 }
 
-/// Whether a canton-wide quorum is within its limits, where there is one.
+/// Whether the canton-wide quorum is absent or within its limits.
 fn quorum_passes(document: &Table) -> bool
     ensures { result ≡ is_some (quorum_of (get_member (codes "canton_quorum") (table_view document.now))) }
 {
@@ -70,7 +70,7 @@ fn are_within(values: &[Value], constituencies: u32) -> bool
     true
 }
 
-/// Whether the numbers where a group stands are those of constituencies.
+/// Whether a group's `stands` is a non-empty array of numbers of constituencies.
 fn stands_within(group: &Value, constituencies: u32) -> bool
     ensures { result ≡ stands_within constituencies (view group.now) }
 {
@@ -83,7 +83,7 @@ fn stands_within(group: &Value, constituencies: u32) -> bool
     }
 }
 
-/// The key by which one that is not known is named.
+/// The key of a refusal for an unknown key.
 fn other_key(found: Option<&str>) -> Key
     ensures { result ≡ other_key (option_copied found.entry) }
 {
@@ -93,7 +93,7 @@ fn other_key(found: Option<&str>) -> Key
     }
 }
 
-/// The key at the top that is not known, if there is one.
+/// The first unknown key at the top, if there is one.
 fn other_key_at_top(document: &Table) -> Option<Key>
     ensures { result ≡ first_failing (top_checks SetupFault.Unknown (table_view document.now)) }
 {
@@ -101,7 +101,7 @@ fn other_key_at_top(document: &Table) -> Option<Key>
     first_failing(&[(other_key(other), knows_document_keys(document))])
 }
 
-/// The key at the top that has this fault.
+/// The first key at the top with this fault, if there is one.
 pub(crate) fn top_key(document: &Table, fault: SetupFault) -> Option<Key>
     ensures { result ≡ first_failing (top_checks fault (table_view document.now)) }
 {
@@ -132,7 +132,7 @@ pub(crate) fn top_key(document: &Table, fault: SetupFault) -> Option<Key>
     }
 }
 
-/// The key of a table that is not known, if there is one.
+/// The first unknown key in a table, if there is one.
 fn other_key_in(value: &Value, kind: Kind) -> Option<Key>
     ensures { result ≡ first_failing (table_checks SetupFault.Unknown kind 0 (view value.now)) }
 {
@@ -141,7 +141,7 @@ fn other_key_in(value: &Value, kind: Kind) -> Option<Key>
     first_failing(&[(other_key(other), knows_keys_of(value, keys))])
 }
 
-/// Whether a table has its key beside the name, and that key.
+/// The key that a table has besides `name`, and whether it is there.
 fn missing_check(value: &Value, kind: Kind) -> (Key, bool)
     ensures { result ≡ missing_check kind (view value.now) }
 {
@@ -152,7 +152,7 @@ fn missing_check(value: &Value, kind: Kind) -> (Key, bool)
     }
 }
 
-/// The key of a table that is missing.
+/// The first missing key of a table, if there is one.
 fn missing_key(value: &Value, kind: Kind) -> Option<Key>
     ensures { result ≡ first_failing (table_checks SetupFault.Missing kind 0 (view value.now)) }
 {
@@ -160,7 +160,7 @@ fn missing_key(value: &Value, kind: Kind) -> Option<Key>
     first_failing(&[named, missing_check(value, kind)])
 }
 
-/// Whether the value of a table beside its name is within its limits, and its key.
+/// The key that a table has besides `name`, and whether its value is within its limits.
 fn range_check(value: &Value, kind: Kind, constituencies: u32) -> (Key, bool)
     ensures { result ≡ range_check kind constituencies (view value.now) }
 {
@@ -177,7 +177,7 @@ fn range_check(value: &Value, kind: Kind, constituencies: u32) -> (Key, bool)
     }
 }
 
-/// The key of a table whose value is out of range.
+/// The first key of a table whose value is out of range, if there is one.
 fn key_out_of_range(value: &Value, kind: Kind, constituencies: u32) -> Option<Key>
     ensures { result ≡ first_failing (table_checks SetupFault.Range kind constituencies (view value.now)) }
 {
@@ -185,7 +185,7 @@ fn key_out_of_range(value: &Value, kind: Kind, constituencies: u32) -> Option<Ke
     first_failing(&[named, range_check(value, kind, constituencies)])
 }
 
-/// The key of a table whose value has something twice.
+/// The key `stands` of a group that names a constituency twice. Other tables have no such key.
 fn key_of_double(value: &Value, kind: Kind) -> Option<Key>
     ensures { result ≡ first_failing (double_checks kind (view value.now)) }
 {
@@ -195,7 +195,7 @@ fn key_of_double(value: &Value, kind: Kind) -> Option<Key>
     }
 }
 
-/// The key in a table that has this fault.
+/// The first key of a table with this fault, if there is one.
 pub(crate) fn table_key(
     value: &Value,
     fault: SetupFault,

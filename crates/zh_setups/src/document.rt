@@ -23,7 +23,7 @@ fn number_in_range(document: &Table, key: &str, low: u32, high: u32) -> Result<u
     number(value, low, high).ok_or(SetupFault::Range)
 }
 
-/// The canton-wide quorum of a document in per mille, 1 to 49, where it has one.
+/// The document's canton-wide quorum in per mille, 1 to 49, or `None` if it has none.
 fn read_quorum(document: &Table) -> Result<Option<u32>, SetupFault>
     ensures { GivesInRange (λ q. q) result (quorum_of (get_member (codes "canton_quorum") (table_view document.now))) }
 {
@@ -36,7 +36,7 @@ fn read_quorum(document: &Table) -> Result<Option<u32>, SetupFault>
     }
 }
 
-/// The parts of a set-up, where each value is of its kind and within its limits.
+/// The parts of a set-up, if every value has the right type and is within its limits.
 fn read_draft(alloc: Global, document: &Table) -> Result<Draft, SetupFault>
     ensures { GivesInRange draft result (setup_of (table_view document.now)) }
 {
@@ -56,7 +56,7 @@ fn read_draft(alloc: Global, document: &Table) -> Result<Draft, SetupFault>
     })
 }
 
-/// The set-up of a document with its keys and no others, or the first fault.
+/// The set-up of a document whose keys have been checked, or the first fault of the other checks.
 fn read_undoubled(alloc: Global, document: &Table) -> Result<Setup, SetupFault>
     ensures { Gives (λ setup. setup) result (undoubled (has_double (table_view document.now)) (setup_of (table_view document.now))) }
 {
@@ -67,7 +67,7 @@ fn read_undoubled(alloc: Global, document: &Table) -> Result<Setup, SetupFault>
     Ok(Setup::assembled(draft))
 }
 
-/// The set-up of a document, or the first fault: each check goes over the whole document before the next.
+/// The set-up of a document, or its first fault. Each check covers the whole document before the next one begins.
 pub(crate) fn read_document(alloc: Global, document: &Table) -> Result<Setup, SetupFault>
     ensures { Gives (λ setup. setup) result (checked (table_view document.now)) }
 {
@@ -80,20 +80,21 @@ pub(crate) fn read_document(alloc: Global, document: &Table) -> Result<Setup, Se
     read_undoubled(alloc, document)
 }
 
-/// A part of a set-up, which a table of its document says.
+/// A part of a set-up that is read from one table of the document.
 trait Part: Sized {
     ghost use Rattle.std.specs.Prelude.{ℕ, Option};
     ghost use Rattle.toml.specs.Data.{Data};
 
-    /// What it stands for.
+    /// What clauses know of a part.
     ghost Meaning: { Type 0 };
 
     ghost meaning: { Self → Meaning };
 
-    /// That of a table, where there are so many constituencies.
+    /// The part that a table describes, given the number of constituencies. `None` if a value has the wrong type or is
+    /// out of its range.
     ghost said: { ℕ → Data → Option Meaning };
 
-    /// Reads that of a table.
+    /// Reads a part from a table, given the number of constituencies.
     fn read(alloc: Global, value: &Value, constituencies: u32) -> Result<Self, SetupFault>
         ensures { GivesInRange meaning result (said constituencies (view value.now)) };
 }
@@ -119,7 +120,7 @@ fn is_among(number: u32, numbers: &[u32]) -> bool
     numbers.contains(&number)
 }
 
-/// For each constituency whether its number is among these.
+/// For each constituency, whether its number is in `numbers`.
 fn stands_among(
     alloc: Global,
     constituencies: u32,
@@ -201,7 +202,7 @@ impl Part for Group {
     }
 }
 
-/// Reads each part.
+/// Reads each value as a part, in order.
 fn read_each<P: Part + Drop>(
     alloc: Global,
     values: &[Value],
@@ -217,7 +218,7 @@ fn read_each<P: Part + Drop>(
     Ok(parts)
 }
 
-/// The constituencies of a document, 1 to 32.
+/// The constituencies of a document: 1 to 32.
 pub(crate) fn read_constituencies(
     alloc: Global,
     document: &Table,
@@ -229,7 +230,7 @@ pub(crate) fn read_constituencies(
     read_each(alloc, values, 0)
 }
 
-/// The municipalities of a document, 1 to 512.
+/// The municipalities of a document: 1 to 512.
 pub(crate) fn read_municipalities(
     alloc: Global,
     document: &Table,
@@ -242,7 +243,7 @@ pub(crate) fn read_municipalities(
     read_each(alloc, values, constituencies)
 }
 
-/// The groups of a document, 1 to 32.
+/// The groups of a document: 1 to 32.
 pub(crate) fn read_groups(
     alloc: Global,
     document: &Table,

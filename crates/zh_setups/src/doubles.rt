@@ -1,4 +1,4 @@
-//! What stands twice in a document.
+//! Repeated names and numbers in a document.
 
 ghost use Rattle.std.specs.Prelude.{◌≡◌, map, IfOk};
 ghost use Rattle.std.specs.List.{list_any};
@@ -22,7 +22,7 @@ pub(crate) fn name_in(value: &Value) -> &str
     }
 }
 
-/// Whether two of the tables have equal names.
+/// Whether two of the tables have the same name.
 fn repeats_name(alloc: Global, values: &[Value]) -> Result<bool, AllocError>
     ensures { IfOk result (λ repeated. repeated ≡ repeats same_name (map view values.now)) }
 {
@@ -78,7 +78,7 @@ pub(crate) fn stands_in(group: &Value) -> &[Value]
     }
 }
 
-/// Whether one of the groups stands twice in one constituency.
+/// Whether one of the groups names a constituency twice.
 fn stands_twice(groups: &[Value]) -> bool
     ensures { result ≡ list_any (λ g. repeats same_number (stands_in g)) (map view groups.now) }
 {
@@ -90,7 +90,7 @@ fn stands_twice(groups: &[Value]) -> bool
     false
 }
 
-/// Whether two names of one kind are equal, or a group stands twice in one constituency.
+/// Whether two constituencies, two municipalities or two groups share a name, or a group names a constituency twice.
 pub(crate) fn has_double(alloc: Global, document: &Table) -> Result<bool, AllocError>
     ensures { IfOk result (λ double. double ≡ has_double (table_view document.now)) }
 {

@@ -1,4 +1,4 @@
-//! The set-up on which the program runs when it is given none.
+//! The set-up that the program uses if it is given none.
 
 ghost use Rattle.std.specs.Prelude.{◌≡◌, IfOk};
 ghost use Rattle.zh_setups.specs.Rehearsal.{rehearsal};
@@ -7,7 +7,7 @@ use crate::text::{SetupFault, read_setup};
 use std::alloc::{AllocError, Global};
 use zh_districts::Setup;
 
-/// The text of the rehearsal, which stands in `data/rehearsal.toml` too.
+/// The text of the rehearsal's set-up, the same as that of `data/rehearsal.toml`.
 pub(crate) const TEXT: &str = r#"version = 1
 house = 10
 [[constituency]]
@@ -39,8 +39,8 @@ name = "C"
 stands = [1, 2, 3]
 "#;
 
-/// The set-up of the rehearsal, read from its text: ten seats, three constituencies with one municipality each, and
-/// three groups that stand everywhere.
+/// The rehearsal's set-up, read from its text: ten seats, three constituencies with one municipality each, and three
+/// groups that stand in every constituency.
 pub fn rehearsal(alloc: Global) -> Result<Setup, AllocError>
     ensures { IfOk result (λ setup. setup ≡ rehearsal) }
 {

@@ -1,4 +1,4 @@
-//! The keys of a document: which are missing, and which should not be there.
+//! The keys of a document: missing and unknown ones.
 
 ghost use Rattle.std.specs.Prelude.{◌≡◌, map, option_and_then, option_copied};
 ghost use Rattle.std.specs.List.{list_all, list_any};
@@ -13,7 +13,7 @@ use crate::place::Kind;
 use crate::table::{tables_at, value_at, value_of};
 use toml::{Table, Value};
 
-/// The keys that may stand at the top. The first does so with version 2 alone, and each other must.
+/// The keys that are allowed at the top. The first is optional and needs version 2; the others are required.
 const TOP_KEYS: [&str; 6] = [
     "canton_quorum",
     "version",
@@ -23,14 +23,14 @@ const TOP_KEYS: [&str; 6] = [
     "group",
 ];
 
-/// The keys that stand at the top.
+/// The keys that are required at the top.
 fn document_keys() -> &'static [&'static str]
     ensures { map (λ k. k.now) result.now ≡ document_keys }
 {
     &TOP_KEYS[1..]
 }
 
-/// The keys of a table.
+/// The keys of a table of this kind, all of them required.
 pub(crate) fn own_keys(kind: Kind) -> &'static [&'static str]
     ensures { map (λ k. k.now) result.now ≡ own_keys kind }
 {
@@ -80,7 +80,7 @@ fn has_members(document: &Table, keys: &[&str]) -> bool
     true
 }
 
-/// Whether a key is missing at the top or in a table.
+/// Whether a required key is missing, at the top or in a table.
 pub(crate) fn misses_key(document: &Table) -> bool
     ensures { result ≡ misses_key (table_view document.now) }
 {
@@ -112,7 +112,7 @@ fn knows_keys(table: &Table, keys: &[&str]) -> bool
     true
 }
 
-/// The first key of a table, in its order, that is not one of these.
+/// The first key of a table, in the table's order, that is not in `keys`.
 pub(crate) fn first_other<'a>(table: &'a Table, keys: &[&str]) -> Option<&'a str>
     ensures { option_copied result ≡ first_other (map (λ k. k.now) keys.now) (table_view table.now) }
 {
@@ -124,7 +124,7 @@ pub(crate) fn first_other<'a>(table: &'a Table, keys: &[&str]) -> Option<&'a str
     None
 }
 
-/// Whether a value, if it is a table, has no other keys than these.
+/// Whether every key of a table is in `keys`. A value of another type has no keys.
 pub(crate) fn knows_keys_of(value: &Value, keys: &[&str]) -> bool
     ensures { result ≡ knows_keys_of (map (λ k. k.now) keys.now) (view value.now) }
 {
@@ -134,7 +134,7 @@ pub(crate) fn knows_keys_of(value: &Value, keys: &[&str]) -> bool
     }
 }
 
-/// The first key of a value, if it is a table, that is not one of these.
+/// The first key of a table that is not in `keys`. A value of another type has no keys.
 pub(crate) fn first_other_of<'a>(value: &'a Value, keys: &[&str]) -> Option<&'a str>
     ensures { option_copied result ≡ option_and_then (first_other (map (λ k. k.now) keys.now)) (as_table (view value.now)) }
 {
@@ -161,7 +161,7 @@ fn tables_know_keys(document: &Table, kind: Kind) -> bool
     each_knows_keys(tables_at(document, kind.as_str()), own_keys(kind))
 }
 
-/// Whether the version is the whole number 2.
+/// Whether the version is the integer 2.
 fn is_version_2(document: &Table) -> bool
     ensures { result ≡ is_version_2 (table_view document.now) }
 {
@@ -171,7 +171,7 @@ fn is_version_2(document: &Table) -> bool
     }
 }
 
-/// The keys that may stand at the top.
+/// The keys that are allowed at the top in this document's version.
 pub(crate) fn known_keys(document: &Table) -> &'static [&'static str]
     ensures { map (λ k. k.now) result.now ≡ known_keys (table_view document.now) }
 {
@@ -182,14 +182,14 @@ pub(crate) fn known_keys(document: &Table) -> &'static [&'static str]
     }
 }
 
-/// Whether each key at the top may stand there.
+/// Whether all keys at the top are allowed there.
 pub(crate) fn knows_document_keys(document: &Table) -> bool
     ensures { result ≡ knows_keys (known_keys (table_view document.now)) (table_view document.now) }
 {
     knows_keys(document, known_keys(document))
 }
 
-/// Whether another key stands at the top or in a table.
+/// Whether there is an unknown key, at the top or in a table.
 pub(crate) fn has_other_key(document: &Table) -> bool
     ensures { result ≡ has_other_key (table_view document.now) }
 {

@@ -1,4 +1,4 @@
-//! Where a set-up text has its fault.
+//! The place of a fault in a set-up text.
 ghost use Rattle.std.specs.List.{list_any};
 ghost use Rattle.std.specs.Prelude.{◌≡◌, ◌≤◌, length, take, [], map};
 ghost use Rattle.toml.specs.View.{view, table_view};
@@ -14,10 +14,10 @@ use crate::text::{Position, SetupFault};
 use std::fmt::InlineText;
 use toml::{Table, Value};
 
-/// How many bytes of a key are kept that is not known.
+/// The most bytes that are kept of an unknown key.
 const LONGEST: usize = 40;
 
-/// A key that is not known. One of more than 40 bytes is cut to 40: whole characters, and then three dots.
+/// An unknown key. One of more than 40 bytes is cut at a character and ends with three dots, 40 bytes at most.
 #[derive(Clone, Copy, Debug, PartialEq, Eq)]
 pub struct OtherKey {
     bytes: [u8; LONGEST],
@@ -58,12 +58,12 @@ pub enum Key {
     Name,
     Persons,
     Stands,
-    /// A key that is not known.
+    /// An unknown key.
     Other(OtherKey),
 }
 
 impl Key {
-    /// Its name, as a text spells it, or what is kept of it.
+    /// The key as a set-up text spells it. An unknown key can be cut. At most 40 bytes.
     pub fn as_bytes(&self) -> &[u8]
         ensures name { result.now ≡ key_name self.now }
         ensures short { length result.now ≤ 40 }
@@ -83,7 +83,7 @@ impl Key {
     }
 }
 
-/// A kind of tables in a set-up text.
+/// The kinds of tables in a set-up text.
 #[derive(Clone, Copy, Debug, PartialEq, Eq)]
 pub enum Kind {
     Constituency,
@@ -92,7 +92,7 @@ pub enum Kind {
 }
 
 impl Kind {
-    /// The name of its tables.
+    /// The key of the array with these tables: at most 12 bytes.
     pub fn as_str(&self) -> &'static str
         ensures name { result.now ≡ kind_name self.now }
         ensures short { length result.now ≤ 12 }
@@ -105,17 +105,17 @@ impl Kind {
     }
 }
 
-/// The place of a fault in a set-up text. What is no TOML has a position, and else there is a key.
+/// The place of a fault in a set-up text: a position if the text is not TOML, otherwise a key.
 #[derive(Clone, Copy, Debug, PartialEq, Eq)]
 pub enum FaultPlace {
     At(Position),
-    /// A key at the top.
+    /// A key at the top of the document.
     Top(Key),
-    /// A key in a table. Tables of a kind are numbered from 1.
+    /// A key in a table. The tables of each kind are numbered from 1.
     Table { kind: Kind, number: usize, key: Key },
 }
 
-/// The first of these tables that has this fault.
+/// The first table with this fault, and the key in it.
 fn first_table(
     values: &[Value],
     fault: SetupFault,
@@ -136,7 +136,7 @@ fn first_table(
     None
 }
 
-/// Whether one of these tables has the name of this one.
+/// Whether `value` has the same name as one of `others`.
 fn has_namesake(value: &Value, others: &[Value]) -> bool
     ensures { result ≡ list_any (same_name (view value.now)) (map view others.now) }
 {
@@ -148,7 +148,7 @@ fn has_namesake(value: &Value, others: &[Value]) -> bool
     false
 }
 
-/// The first of these tables whose name one before it has.
+/// The first table that has the same name as an earlier one.
 fn first_namesake(values: &[Value], kind: Kind) -> Option<FaultPlace>
     ensures { result ≡ first_namesake kind 1 [] (map view values.now) }
 {
@@ -164,7 +164,7 @@ fn first_namesake(values: &[Value], kind: Kind) -> Option<FaultPlace>
     None
 }
 
-/// The first of these tables with a name that stands twice, if that is the fault.
+/// The first table that has the same name as an earlier one, if the fault is `Double`.
 fn namesake_of(values: &[Value], fault: SetupFault, kind: Kind) -> Option<FaultPlace>
     ensures { result ≡ namesake_of fault kind (map view values.now) }
 {
@@ -174,7 +174,7 @@ fn namesake_of(values: &[Value], fault: SetupFault, kind: Kind) -> Option<FaultP
     }
 }
 
-/// The values of the array at a key, if there is one.
+/// The values of the non-empty array at a key. Anything else gives none.
 fn values_under<'a>(document: &'a Table, key: &str) -> &'a [Value]
     ensures { map view result.now ≡ values_under key.now (table_view document.now) }
 {
@@ -187,14 +187,15 @@ fn values_under<'a>(document: &'a Table, key: &str) -> &'a [Value]
     }
 }
 
-/// How many constituencies there are, where there are not too many.
+/// The number of constituencies, at most 32.
 fn constituencies_in(document: &Table) -> u32
     ensures { result ≡ constituencies_in (table_view document.now) }
 {
     values_under(document, "constituency").len().min(32) as u32
 }
 
-/// What is looked into for a fault.
+/// The values to check for a fault. For `Range` they can have any type, for other faults only those of an array of
+/// tables count.
 fn looked_into<'a>(document: &'a Table, fault: SetupFault, key: &str) -> &'a [Value]
     ensures { map view result.now ≡ looked_into fault key.now (table_view document.now) }
 {
@@ -204,7 +205,7 @@ fn looked_into<'a>(document: &'a Table, fault: SetupFault, key: &str) -> &'a [Va
     }
 }
 
-/// The first value under a key that has this fault.
+/// The first of the values at a key that has this fault.
 fn first_of(document: &Table, fault: SetupFault, kind: Kind, key: &str) -> Option<FaultPlace>
     ensures { result ≡ first_of fault kind key.now (table_view document.now) }
 {

@@ -1,4 +1,4 @@
-//! Values of a TOML document: its numbers, its names and its arrays.
+//! Values in a TOML document: numbers, names and arrays.
 
 ghost use Rattle.std.specs.Prelude.{◌≡◌, map, option_map, option_copied, option_and_then, codes};
 ghost use Rattle.std.specs.List.{list_all};
@@ -16,7 +16,7 @@ fn are_printable(name: &[u8]) -> bool
     name.iter().all(|byte| 32 <= *byte && *byte != 127)
 }
 
-/// Whether the bytes are 1 to 40, with no control character, and with no space at either end.
+/// Whether these are 1 to 40 bytes, without control characters (0 to 31, and 127) and without a space at either end.
 fn is_plain(name: &[u8]) -> bool
     ensures { result ≡ is_plain name.now }
 {
@@ -35,7 +35,7 @@ fn is_name(text: &str) -> bool
     is_plain(text.as_bytes())
 }
 
-/// The whole number, where it lies from `low` to `high`.
+/// The value as a whole number, if it is one from `low` to `high`.
 pub(crate) fn number(value: &Value, low: u32, high: u32) -> Option<u32>
     ensures { result ≡ number_within low high (view value.now) }
 {
@@ -47,7 +47,7 @@ pub(crate) fn number(value: &Value, low: u32, high: u32) -> Option<u32>
     }
 }
 
-/// The number at a key of a table.
+/// The number from `low` to `high` at a key of a table, if there is one.
 pub(crate) fn number_at(value: &Value, key: &str, low: u32, high: u32) -> Option<u32>
     ensures { result ≡ option_and_then (number_within low high) (get key.now (view value.now)) }
 {
@@ -57,7 +57,7 @@ pub(crate) fn number_at(value: &Value, key: &str, low: u32, high: u32) -> Option
     }
 }
 
-/// The name of a part.
+/// The name of a table: the text at its key `name`, if it is one by the rule of names.
 pub(crate) fn name(value: &Value) -> Option<&str>
     ensures { option_copied result ≡ option_and_then name_of (get (codes "name") (view value.now)) }
 {
@@ -67,7 +67,7 @@ pub(crate) fn name(value: &Value) -> Option<&str>
     }
 }
 
-/// The value at a key of a table. Another value has none.
+/// The value at a key of a table. A value of another type has no keys.
 pub(crate) fn value_of<'a>(value: &'a Value, key: &str) -> Option<&'a Value>
     ensures { option_map (λ v. view v.now) result ≡ get key.now (view value.now) }
 {
@@ -81,7 +81,7 @@ pub(crate) fn value_at<'a>(document: &'a Table, key: &str) -> Option<&'a Value>
     document.get(key)
 }
 
-/// The values of an array that has one.
+/// The values of a non-empty array. An empty array, or a value of another type, gives `None`.
 pub(crate) fn values(value: &Value) -> Option<&[Value]>
     ensures { option_map (λ v. map view v.now) result ≡ values_of (view value.now) }
 {
@@ -93,7 +93,7 @@ pub(crate) fn values(value: &Value) -> Option<&[Value]>
     }
 }
 
-/// The values at a key of the document, 1 to `most`.
+/// The values of the array at a key of the document, if there are 1 to `most` of them.
 pub(crate) fn values_at<'a>(document: &'a Table, key: &str, most: usize) -> Option<&'a [Value]>
     ensures { option_map (λ v. map view v.now) result ≡ values_at key.now most (table_view document.now) }
 {
@@ -116,7 +116,8 @@ fn are_tables(values: &[Value]) -> bool
     true
 }
 
-/// The tables of an array of tables. Any other value has none.
+/// The tables in an array of tables. Any other value gives none, for example an array with one value that is not a
+/// table.
 fn tables(value: &Value) -> &[Value]
     ensures { map view result.now ≡ tables_of (view value.now) }
 {
@@ -126,7 +127,7 @@ fn tables(value: &Value) -> &[Value]
     }
 }
 
-/// The tables at a key of the document.
+/// The tables in the array of tables at a key of the document.
 pub(crate) fn tables_at<'a>(document: &'a Table, key: &str) -> &'a [Value]
     ensures { map view result.now ≡ tables_at key.now (table_view document.now) }
 {

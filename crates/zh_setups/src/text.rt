@@ -19,7 +19,7 @@ use zh_districts::Setup;
 
 const LONGEST: usize = 1_048_576;
 
-/// The set-up of a document, or its first fault and where it stands.
+/// The set-up of a document, or its first fault with the place of that fault.
 fn read_placed(alloc: Global, document: &Table) -> Result<Setup, SetupRefusal>
     ensures set_up { IfOk result (λ setup. checked (table_view document.now) ≡ Ok setup) }
     ensures table { IfOk result (SetupOf (table_view document.now)) }
@@ -37,7 +37,8 @@ fn read_placed(alloc: Global, document: &Table) -> Result<Setup, SetupRefusal>
     }
 }
 
-/// The refusal of a text that the crate `toml` does not read: where its error begins, unless memory was refused.
+/// The refusal of a text that the crate `toml` can't read. Its place is where the error begins, unless memory was
+/// refused.
 fn refusal_of(error: &Error, text: &[u8]) -> SetupRefusal
     requires { IsWithin text.now error.now }
     ensures { IsRefusedBy error.now text.now result }
@@ -54,11 +55,11 @@ fn refusal_of(error: &Error, text: &[u8]) -> SetupRefusal
     }
 }
 
-/// The set-up of a text in TOML, as docs/FORMATS.md lays it out: the keys `version` (1 or 2), `house`, `constituency`,
-/// `municipality` and `group`, and with version 2 also `canton_quorum`, if there is one.
+/// Reads a set-up from a text in TOML. docs/FORMATS.md describes the format: the keys `version` (1 or 2), `house`,
+/// `constituency`, `municipality` and `group`, and in version 2 optionally `canton_quorum`.
 ///
-/// The faults are looked for in the order of `SetupFault`, each over the whole document; the refusal says where the text
-/// has it. Memory may come in place of any other answer, where an allocation was refused.
+/// The checks run in the order of the variants of `SetupFault`, each over the whole document. A refusal names the first
+/// fault and, if known, its place. `Memory` can come at any time, when an allocation is refused.
 pub fn read_setup(alloc: Global, text: &[u8]) -> Result<Setup, SetupRefusal>
     ensures set_up { IfOk result (λ setup. reading_of text.now ≡ Ok setup) }
     ensures table { IfOk result (Describes text.now) }
@@ -79,27 +80,28 @@ pub fn read_setup(alloc: Global, text: &[u8]) -> Result<Setup, SetupRefusal>
     }
 }
 
-/// The fault of a set-up text: the first of these checks, each over the whole document, that finds one.
+/// The fault of a set-up text. The checks run in this order, each over the whole document; the first that fails
+/// decides.
 #[derive(Clone, Copy, Debug, PartialEq, Eq)]
 pub enum SetupFault {
-    /// Memory ran out.
+    /// An allocation was refused. This can happen at any time.
     Memory,
-    /// The text is longer than 1,048,576 bytes, or it is no TOML.
+    /// The text is longer than 1,048,576 bytes, or is not TOML in UTF-8.
     Text,
-    /// A key is missing at the top or in a table.
+    /// A required key is missing, at the top or in a table.
     Missing,
-    /// Another key stands at the top or in a table.
+    /// There is an unknown key, at the top or in a table.
     Unknown,
-    /// A value is of another kind or outside its limits.
+    /// A value has the wrong type or is outside its limits.
     Range,
-    /// Two names of one kind are equal, or a group stands twice in one constituency.
+    /// Two constituencies, two municipalities or two groups share a name, or a group names a constituency twice.
     Double,
 }
 
 impl SetupFault {
     ghost use Rattle.zh_setups.specs.Names.{setup_name};
 
-    /// Its name, as reports spell it.
+    /// The name of the fault in reports: at most 13 bytes.
     pub fn name(self) -> &'static str
         ensures name { result.now ≡ setup_name self }
         ensures short { length result.now ≤ 13 }
@@ -115,7 +117,7 @@ impl SetupFault {
     }
 }
 
-/// The fault of a set-up text, and where the text has it, as far as that is known.
+/// The fault of a set-up text, and its place in the text if that is known.
 #[derive(Clone, Copy, Debug, PartialEq, Eq)]
 pub struct SetupRefusal {
     pub fault: SetupFault,
@@ -138,14 +140,14 @@ impl<T: Drop> From<AllocFailed<T>> for SetupFault {
     }
 }
 
-/// A position in a text: its line and its column, both from 1. A column counts characters.
+/// A position in a text: line and column, both from 1. Columns count characters, not bytes.
 #[derive(Clone, Copy, Debug, PartialEq, Eq)]
 pub struct Position {
     pub line: usize,
     pub column: usize,
 }
 
-/// The position after one more byte.
+/// The position after one more byte. A UTF-8 continuation byte (128 to 191) does not move it.
 fn moved(at: Position, byte: u8) -> Position
     requires line { at.line + 1 < 2 ^ 64 }
     requires column { at.column + 1 < 2 ^ 64 }
@@ -164,7 +166,7 @@ fn moved(at: Position, byte: u8) -> Position
     }
 }
 
-/// The position after these bytes.
+/// The position after `bytes`, read from line 1, column 1.
 pub(crate) fn position_after(bytes: &[u8]) -> Position
     ensures { result ≡ position_after bytes.now }
 {

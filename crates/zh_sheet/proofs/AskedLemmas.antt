@@ -1,4 +1,4 @@
--- What the seats of the constituencies and of the groups leave to the lower apportionment.
+-- The question that the seats of the constituencies and of the groups leave for the lower apportionment.
 use Rattle.std.proofs.Common.{◌≡◌, ℕ, zero, suc, ◌+◌, ◌-◌, ◌<◌, ◌≤◌, ◌⊎◌, Bool, true, false, cond, Some, All, List, [], ◌∷◌, length, get_or, map, filter, slice_get, inl, inr, refl, ap, sym, ◌∙◌, arith}
 use Rattle.std.specs.Prelude.{nat_lt}
 use Rattle.std.specs.List.{range_with_len}
@@ -20,7 +20,7 @@ use Rattle.zh_sheet.specs.Distribution.{HaveSeats, Targets, lower_question, seat
 use Rattle.zh_sheet.specs.Stages.{CanBeAsked}
 use Rattle.zh_sheet.proofs.SeatedLemmas.{IsSeated, at_seated_votes, none_seated, seated_are}
 
--- what is true of each that takes part
+-- what holds for all in the list of participants holds for each group that takes part
 pub participant_at : (P : ℕ → Type 0) (xs : List ℕ) (taking : List Bool) (k : ℕ) → length xs ≡ length taking →
     All P (of_participants xs taking) → k < length xs → get_or taking k false ≡ true → P (get_or xs k 0)
 participant_at P [] taking k long each lt takes = absurd (omega (arith, lt))
@@ -32,7 +32,7 @@ participant_at P (x ∷ xs) (true ∷ taking) (suc k) long each lt takes =
 participant_at P (x ∷ xs) (false ∷ taking) (suc k) long each lt takes =
     participant_at P xs taking k (omega (arith, long)) each (omega (arith, lt)) takes
 
--- and the other way round
+-- the converse
 pub All-participants : (P : ℕ → Type 0) (xs : List ℕ) (taking : List Bool) → length xs ≡ length taking →
     ((k : ℕ) → k < length xs → get_or taking k false ≡ true → P (get_or xs k 0)) → All P (of_participants xs taking)
 All-participants P [] [] long each = All-nil P
@@ -73,7 +73,7 @@ seated_takes t a k lt some =
           absurd (omega (arith, some, a.groups.others k read))
     ]
 
--- a number of the seats of the groups is at most the house
+-- a group has at most as many seats as the house
 upper_within : (t : VoteTotals) (a : Targets t) (k : ℕ) → k < length a.upper → get_or a.upper k 0 ≤ t.canton.house
 upper_within t a k lt =
     elim (cases_lt 0 (get_or a.upper k 0)) [

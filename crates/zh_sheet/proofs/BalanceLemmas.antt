@@ -1,4 +1,4 @@
--- The constituencies are to get as many seats as the groups.
+-- The constituencies together are to get as many seats as the groups.
 use Rattle.std.proofs.Common.{◌≡◌, ℕ, zero, suc, ◌+◌, ◌-◌, Bool, true, false, Some, List, [], ◌∷◌, ◌++◌, length, get_or, map, slice_get, inl, inr, refl, ap, sym, ◌∙◌, arith, add-one}
 use Rattle.std.specs.List.{sum}
 use Rattle.std.proofs.lemmas.Bool.{cases_lt}
@@ -16,13 +16,13 @@ sum_to-front : (n : ℕ) (f : ℕ → ℕ) → sum_to (suc n) f ≡ f 0 + sum_to
 sum_to-front zero f = omega arith
 sum_to-front (suc n) f = omega (arith, sum_to-front n f)
 
--- the numbers of a list, by their places
+-- the sum of a list, by its places
 sum_to-list : (xs : List ℕ) → sum_to (length xs) (λ k. get_or xs k 0) ≡ sum xs
 sum_to-list [] = refl
 sum_to-list (x ∷ xs) =
     sum_to-front (length xs) (λ k. get_or (x ∷ xs) k 0) ∙ (ap (λ (s : ℕ). x + s) (sum_to-list xs) ∙ sym (sum_by-cons (λ s. s) x xs))
 
--- those that do not take part have nothing
+-- the sum does not change without those that do not take part, if these have 0
 sum-participants : (xs : List ℕ) (taking : List Bool) → length xs ≡ length taking →
     ((k : ℕ) → slice_get taking k ≡ Some false → get_or xs k 0 ≡ 0) → sum (of_participants xs taking) ≡ sum xs
 sum-participants [] [] long others = refl
@@ -37,7 +37,7 @@ sum-participants (x ∷ xs) (false ∷ taking) long others =
 abbrev seats_at : List ℕ → ℕ → ℕ
 seats_at upper g = get_or upper (g - 1) 0
 
--- nor do those without seats
+-- the sum does not change without the groups that have no seats
 sum-seated : (upper : List ℕ) (n : ℕ) → sum (map (seats_at upper) (first_seated upper n)) ≡ sum_to n (λ k. get_or upper k 0)
 sum-seated upper zero = refl
 sum-seated upper (suc n) =

@@ -1,4 +1,4 @@
--- What the crates above may use.
+-- The lemmas that crates above may use.
 pub use Rattle.zh_sheet.proofs.SeatedLemmas.{IsSeated, at_seated_votes, first_seated, numbers_more, seated_are, seated_no, seated_yes}
 pub use Rattle.zh_sheet.proofs.AskedLemmas.{can_be_asked, few_seated}
 pub use Rattle.zh_sheet.proofs.GivenLemmas.{few_given, made_given, made_open, one_result}

@@ -1,4 +1,4 @@
--- Which answer each part below leads to.
+-- The answer that each part below leads to.
 use Rattle.std.proofs.Common.{ℕ, ◌-◌, Bool, List, get_or, Ok, Err, refl, inl, inr, subst}
 use Rattle.std.specs.Prelude.{IsErrOf}
 use Rattle.zh_districts.specs.Seats.{AreSeats, IsFirstWithout, persons}
@@ -60,7 +60,7 @@ upper_refused t seats taking voters is (upper_faults.Refused refusal) refused =
     })
     (λ d g e. absurd (cc))
 
--- the seats of the groups are there
+-- the groups get seats
 pub upper_given : (t : VoteTotals) (seats : List ℕ) (taking : List Bool) (voters : List ℕ) → IsBasis t seats taking voters → (u : Apportionment) →
     IsRefusedExactly (HaveNoUpperSeats voters taking t.canton.house) (Ok u) → NoneOf IsBeforeLists t
 upper_given t seats taking voters is u refused =
@@ -87,7 +87,7 @@ none_of_rows : (t : VoteTotals) (a : Targets t) → NoneOf IsBeforeLists t → (
 none_of_rows t a before rows =
     none_before_search t before (λ d without. rows d (subst (λ q. IsFirstWithoutVotes q d) (same_question t a without.targets) without.first))
 
--- the fault of a sheet for that of the lists, whose columns, from 1, are the seated groups
+-- the fault of a sheet for a fault of the lists; the columns, counted from 1, are the seated groups
 abbrev pub of_lower : LowerFault → List ℕ → SheetFault
 of_lower lower_faults.Memory seated = Memory
 of_lower (lower_faults.NoVotes d) seated = Refused (refusals.NoVotes d)
@@ -121,7 +121,7 @@ lower_refused t a before lower_faults.Exhausted found =
     (record { holds = record { targets = a; none = found.fault.none_before; none_given = found.fault.none_given }; first = rows })
     (λ d g e. absurd (cc))
 
--- the seats of the lists are there
+-- the lists get seats
 pub lower_given : {Sheet : Type 0} (t : VoteTotals) (a : Targets t) → NoneOf IsBeforeLists t → (lower : SeatMatrix) (sheet : Sheet) →
     LowerOutcome (lower_question t a.seats a.upper) (Ok lower) → IsAnswer t (Ok sheet)
 lower_given t a before lower sheet found =

@@ -1,4 +1,4 @@
--- A distribution with given lists: where it is open, no refusal before the lists holds, and it is the only one.
+-- A distribution with given lists: if it may be published, no refusal before the lists holds, and it is the only one.
 use Rattle.std.proofs.Common.{◌≡◌, ◌≢◌, ℕ, ◌+◌, ◌*◌, ◌/◌, ◌%◌, ◌<◌, ◌≤◌, get_or, Option, Ok, Err, Some, None, refl, inl, inr, ap, sym, ◌∙◌, subst, arith}
 use Rattle.zh_divisors.proofs.CallerLemmas.{term-le-sum_to}
 use Rattle.std.specs.Prelude.{◌↔◌, Bool, IsTrue, false}
@@ -24,7 +24,7 @@ use Rattle.zh_sheet.proofs.OneSheetLemmas.{AreSameAbove, same_above, same_asked,
 use Rattle.zh_sheet.proofs.RefusalLemmas.{none_above_lists, none_seated}
 use Rattle.zh_sheet.proofs.TargetLemmas.{same_question}
 
--- a distribution asks the question that the seats above leave
+-- the question of a distribution is that of its targets
 asked_above : (totals : VoteTotals) (a : Targets totals) (x : Distribution) → IsDistribution x → x.totals ≡ totals →
     question_of x ≡ lower_question totals a.seats a.upper
 asked_above totals a x is same =
@@ -40,14 +40,14 @@ asked_above totals a x is same =
     } in
     ap (λ t. lower_question t x.seats.seats x.upper.seats) same ∙ same_question totals a b
 
--- the lists of an open distribution follow
+-- the lists of a distribution follow
 follow_above : (totals : VoteTotals) (a : Targets totals) (lists : SeatMatrix) (x : Distribution) → IsDistribution x → x.totals ≡ totals → x.lower ≡ lists →
     DoFollow (lower_question totals a.seats a.upper) lists
 follow_above totals a lists x is same lower =
     let own : DoFollow (question_of x) x.lower = record { strict = is.lower; limits = is.limits } in
     subst (λ l. DoFollow (lower_question totals a.seats a.upper) l) lower (subst (λ q. DoFollow q x.lower) (asked_above totals a x is same) own)
 
--- where the lists do not follow there is none
+-- if the lists do not follow, there is no such distribution
 pub none_given : (totals : VoteTotals) (a : Targets totals) (lists : SeatMatrix) → ¬ DoFollow (lower_question totals a.seats a.upper) lists →
     IsGiven totals lists None
 none_given totals a lists not = record {
@@ -57,7 +57,7 @@ none_given totals a lists not = record {
   every = λ x is same lower. absurd (not (follow_above totals a lists x is.distribution same lower));
 }
 
--- nor where votes are hidden, or a part above the lists is refused for another reason than memory
+-- there is none either if votes are hidden, or if a part above the lists is refused for another reason than memory
 pub none_shown : (totals : VoteTotals) (lists : SeatMatrix) → ¬ NoneHidden totals → IsGiven totals lists None
 none_shown totals lists hidden = record {
   votes = tt;
@@ -76,7 +76,7 @@ none_above totals lists (Refused refusal) answer early other = record {
   every = λ x is same lower. absurd (is.none refusal early (subst (λ t. IsCaseOf t refusal) (sym same) answer.refused.holds));
 }
 
--- the distribution of the seats above and the lists
+-- the distribution of the seats above the lists, and of the lists
 pub meets_with : (totals : VoteTotals) (above : Above) (lists : SeatMatrix) → sums.AreTotals totals → StandAbove totals above →
     DoFollow (lower_question totals above.seats.seats above.upper.seats) lists →
     lists.divisors ≡ millionths lists.divisors.of_rows lists.divisors.of_columns → IsDistribution (distribution_with totals above lists)
@@ -93,7 +93,7 @@ meets_with totals above lists limits stand follow in_millionths = record {
   limits = follow.limits;
 }
 
--- it is the only one
+-- such a distribution is the only one
 pub one_given : (totals : VoteTotals) (lists : SeatMatrix) (x : Distribution) → IsDistribution x → NoneHidden totals → NoneOf IsBeforeLists totals →
     x.totals ≡ totals → x.lower ≡ lists → IsGiven totals lists (Some x)
 one_given totals lists x is hidden none same lower = record {
@@ -110,7 +110,7 @@ one_given totals lists x is hidden none same lower = record {
       ap Some (sym (same_parts x y totals_same above.seats above.taking above.voters above.upper (seats ∙ sym lower)));
 }
 
--- what the test of rounding asks of the sizes of lists that follow
+-- lists that follow have the sizes that the test of rounding requires
 pub few_given : (q : Question) (lists : SeatMatrix) → AreSeatTotals q.rows q.row_totals → DoFollow q lists → DoFit q.rows q.columns lists
 few_given q lists totals follow = record {
   rows = follow.limits.rows;
@@ -129,7 +129,7 @@ few_given q lists totals follow = record {
       rw place at few);
 }
 
--- a sheet that was made of votes that it shows all is open
+-- a sheet that was made and shows all votes may be published
 pub made_open : (totals : VoteTotals) (x : Distribution) → IsMade totals (Ok x) → NoneHidden totals → IsPublished x
 made_open totals x made hidden =
     let same : x.totals ≡ totals = made.sheet.votes in
@@ -146,7 +146,7 @@ made_open totals x made hidden =
       none = subst (λ t. NoneOf IsBeforeLists t) (sym same) none;
     }
 
--- and its own seats and divisors give it again
+-- its own seats and divisors give it again
 pub made_given : (totals : VoteTotals) (x : Distribution) (found : Option Distribution) → IsMade totals (Ok x) → NoneHidden totals →
     IsGiven totals x.lower found → found ≡ Some x
 made_given totals x found made hidden given = given.every x (made_open totals x made hidden) made.sheet.votes refl
@@ -163,7 +163,7 @@ one_result x y X Y totals =
           (weakened (question_of x) y.lower.divisors y.lower.seats (subst (λ q. IsStrict q y.lower.divisors y.lower.seats) question Y.lower));
     }
 
--- lists that fit follow exactly where the strict test passes
+-- lists that fit follow if and only if the strict test passes
 pub follow_if : (q : Question) (lists : SeatMatrix) (passes : Bool) → DoFit q.rows q.columns lists →
     (IsTrue passes ↔ IsStrict q lists.divisors lists.seats) → IsTrue passes ↔ DoFollow q lists
 follow_if q lists passes fit is = (
@@ -171,6 +171,6 @@ follow_if q lists passes fit is = (
   λ follow. is.1 follow.strict,
 )
 
--- and others do not
+-- lists that do not fit do not follow
 pub none_fit : (q : Question) (lists : SeatMatrix) → AreSeatTotals q.rows q.row_totals → ¬ DoFit q.rows q.columns lists → IsTrue false ↔ DoFollow q lists
 none_fit q lists totals not = (λ yes. absurd (cc), λ follow. absurd (not (few_given q lists totals follow)))

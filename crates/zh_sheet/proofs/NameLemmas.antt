@@ -13,7 +13,7 @@ use Rattle.zh_sheet.specs.Refusals.{IsSheetRefusal, refusal_name}
 use Rattle.zh_sheet.specs.declared.fault.SheetRefusal.{SheetRefusal}
 use Rattle.zh_sheet.specs.declared.fault.SheetRefusal.TheVariants as refusals
 
--- the number of a numeral, and of two with a space between
+-- the number of a numeral, and of each of two numerals with a space between them
 abbrev pub number_of : List ℕ → ℕ
 number_of numeral = digits_value 10 numeral
 
@@ -23,11 +23,11 @@ first_number numerals = number_of (before_first (λ byte. byte == 32) numerals)
 abbrev pub second_number : List ℕ → ℕ
 second_number numerals = number_of (after_first (λ byte. byte == 32) numerals)
 
--- the refusals without numbers, but those of the groups
+-- the refusals without numbers, except those of the groups
 abbrev pub plain : List SheetRefusal
 plain = refusals.TiedSeats ∷ refusals.Exhausted ∷ []
 
--- the refusal of this name, which may be one of the groups
+-- the refusal with this name: that of the groups, if there is one, and otherwise one with or without numbers
 abbrev pub named_or : Option UpperRefusal → List ℕ → Option SheetRefusal
 named_or (Some refusal) bytes = Some (refusals.NoUpperSeats refusal)
 named_or None bytes =
@@ -43,7 +43,7 @@ refusal_named bytes = named_or (upper_named bytes) bytes
 number_of-decimal : (n : ℕ) → n < 2 ^ 32 → number_of (decimal n) ≡ n
 number_of-decimal n small = (decimal_is_IsNumeral n (omega (arith, small))).1
 
--- digits end where the first space is
+-- digits end at the first space
 digits_end : (digits rest : List ℕ) → AllDigits 10 digits → position_or_len (λ byte. byte == 32) (digits ++ 32 ∷ rest) ≡ length digits
 digits_end [] rest all = refl
 digits_end (digit ∷ digits) rest all =

@@ -1,4 +1,4 @@
--- Votes have one sheet.
+-- Votes have only one sheet.
 use Rattle.std.proofs.Common.{◌≡◌, ℕ, Bool, List, length, sym, ap, ◌∙◌, inl, inr, arith}
 use Rattle.std.proofs.lemmas.Bool.{cases_order}
 use Rattle.zh_districts.specs.Seats.{persons}
@@ -25,7 +25,7 @@ same_next weights seats i j I J = elim (cases_order j i) [
   | inr (inr more) ↦ absurd (omega (arith, J.first i more, I.most j J.within))
 ]
 
--- equal seats have one divisor
+-- the divisor is the same if the seats are
 same_divisor : (weights : List ℕ) (a b : Apportionment) → b.seats ≡ a.seats → HasDivisor weights a → HasDivisor weights b → b ≡ a
 same_divisor weights a b seats A B =
     let last : B.last ≡ A.last = same_last weights a.seats A.last B.last A.last_is (rw (← seats) B.last_is) in
@@ -36,7 +36,7 @@ same_divisor weights a b seats A B =
     ∙ ap (λ n. record { seats = a.seats; num = n; den = b.den }) num
     ∙ ap (λ n. record { seats = a.seats; num = a.num; den = n }) den
 
--- equal parts make equal distributions
+-- distributions with equal parts are equal
 pub same_parts : (x y : Distribution) → y.totals ≡ x.totals → y.seats ≡ x.seats → y.taking ≡ x.taking → y.voters ≡ x.voters →
     y.upper ≡ x.upper → y.lower ≡ x.lower → y ≡ x
 same_parts x y totals seats taking voters upper lower =
@@ -66,7 +66,7 @@ pub record AreSameAbove (x y : Distribution) : Type 0 where
   pub voters : y.voters ≡ x.voters
   pub upper : y.upper ≡ x.upper
 
--- those of two distributions of the same votes are
+-- they are equal for two distributions of the same votes
 pub same_above : (x y : Distribution) → IsDistribution x → IsDistribution y → y.totals ≡ x.totals → AreSameAbove x y
 same_above x y X Y totals =
     let other : Targets x.totals = record {
@@ -88,7 +88,7 @@ same_above x y X Y totals =
     let upper : y.upper ≡ x.upper = same_upper_shares x.taking x.upper y.upper same.upper shares in
     record { seats = seats; taking = same.taking; voters = same.voters; upper = upper }
 
--- two distributions of the same votes, both with divisors that the search comes to
+-- two distributions of the same votes are equal if both have the divisors that a sheet shows
 pub same_distribution : (x y : Distribution) → IsDistribution x → IsShown (question_of x) x.lower.divisors →
     IsDistribution y → IsShown (question_of y) y.lower.divisors → y.totals ≡ x.totals → y ≡ x
 same_distribution x y X x_reached Y y_reached totals =

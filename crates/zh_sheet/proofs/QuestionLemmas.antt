@@ -1,4 +1,4 @@
--- What these totals ask of the lower apportionment, and which answer its outcome leads to.
+-- The question that totals lead to, and the answer that its outcome leads to.
 use Rattle.std.proofs.Common.{◌≡◌, ◌-◌, List, ℕ, Ok, Err, Some, ap, arith, get_or, length, refl, sym, subst, ◌∙◌}
 use Rattle.zh_matrices.specs.Divisors.{millionths}
 use Rattle.zh_matrices.specs.Lots.{AreRanges}
@@ -33,7 +33,7 @@ use Rattle.zh_sheet.proofs.GivenLemmas.{meets_with, one_given}
 use Rattle.zh_sheet.proofs.ReasonLemmas.{reason}
 use Rattle.zh_sheet.proofs.RefusalLemmas.{memory_answer, not_made}
 
--- what is asked can be answered
+-- the lower apportionment accepts the question
 pub above_can : (t : VoteTotals) (above : Above) → AreTotals t → StandAbove t above →
     CanBeAsked (lower_question t above.seats.seats above.upper.seats)
 above_can t above limits stand = can_be_asked t (targets_above t above stand) limits
@@ -56,7 +56,7 @@ outcome_of : (t : VoteTotals) (x : ListQuestion) → IsAsked t x → (P : Questi
     P (lower_question t x.above.seats.seats x.above.upper.seats)
 outcome_of t x asked P is = subst P asked.same is
 
--- the seats of the lists are there
+-- the lists get seats
 pub made_of : (t : VoteTotals) (x : ListQuestion) (lower : SeatMatrix) → IsAsked t x → LowerOutcome (question_in x) (Ok lower) →
     IsMade t (Ok (distribution_with t x.above lower))
 made_of t x lower asked found =
@@ -73,7 +73,7 @@ made_of t x lower asked found =
       refused = lower_given t (targets_above t x.above asked.above) asked.above.none lower (distribution_with t x.above lower) outcome;
     }
 
--- or they are refused
+-- the seats of the lists are refused
 pub none_of : (t : VoteTotals) (x : ListQuestion) (fault : LowerFault) → IsAsked t x → LowerOutcome (question_in x) (Err fault) →
     IsMade t (Err (of_lower fault x.seated.items))
 none_of t x fault asked found =

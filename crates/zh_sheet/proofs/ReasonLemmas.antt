@@ -15,7 +15,7 @@ use Rattle.zh_sheet.specs.declared.reason.ExhaustedReason.{ExhaustedReason}
 use Rattle.zh_sheet.specs.declared.reason.ExhaustedReason.TheVariants as reasons
 use Rattle.zh_sheet.proofs.TargetLemmas.{same_question}
 
--- too few seats for one question are too few for each that these totals ask
+-- if one question has too few seats, so has each question that these totals lead to
 impossible : (t : VoteTotals) (a : Targets t) (rows : List Bool) → HasTooFewSeats (asked_below t a) rows → IsReason t (reasons.Impossible rows)
 impossible t a rows few = record {
   targets = a;
@@ -25,7 +25,7 @@ impossible t a rows few = record {
       (subst (λ (q : Question). IsWeak q divisors seats) (same_question t a others) weak);
 }
 
--- a near tie excludes clear seats of each question that these totals ask
+-- a near tie excludes clear seats for each question that these totals lead to
 nearly_tied : (t : VoteTotals) (a : Targets t) (d g : ℕ) → IsTieAmong (asked_below t a) (seated_groups a.upper) d g →
     IsReason t (reasons.NearlyTied d g)
 nearly_tied t a d g tie = record {
@@ -36,7 +36,7 @@ nearly_tied t a d g tie = record {
       (subst (λ (q : Question). IsClear q divisors seats) (same_question t a others) clear);
 }
 
--- and strict seats others
+-- seats that follow strictly exclude others for each question that these totals lead to
 only : (t : VoteTotals) (a : Targets t) (x : SeatsOfLists) → AreSeatsAmong (asked_below t a) (seated_groups a.upper) x → AreOnlySeats t x
 only t a x follow = record {
   targets = a;
@@ -46,7 +46,7 @@ only t a x follow = record {
       (subst (λ (q : Question). IsWeak q divisors seats) (same_question t a others) weak);
 }
 
--- what is so of what is asked is a reason for the totals that ask it
+-- a reason for the question is a reason for the totals that lead to it
 pub reason : (t : VoteTotals) (a : Targets t) (x : ExhaustedReason) → IsReasonAmong (asked_below t a) (seated_groups a.upper) x → IsReason t x
 reason t a (reasons.Impossible rows) is = impossible t a rows is
 reason t a (reasons.NearlyTied d g) is = nearly_tied t a d g is

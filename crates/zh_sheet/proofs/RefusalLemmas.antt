@@ -1,4 +1,4 @@
--- Of the cases in their order one decides.
+-- Only one of the cases, in their order, decides.
 use Rattle.std.proofs.Common.{◌≡◌, ℕ, ◌<◌, List, Ok, Err, refl, inl, inr, ap, sym, arith}
 use Rattle.std.proofs.lemmas.Bool.{cases_order}
 use Rattle.zh_totals.specs.Totals.{VoteTotals}
@@ -17,14 +17,14 @@ use Rattle.zh_sheet.specs.declared.fault.SheetRefusal.{SheetRefusal}
 use Rattle.zh_sheet.specs.declared.fault.SheetRefusal.TheVariants as refusals
 use Rattle.zh_sheet.proofs.TargetLemmas.{none_without, not_tied, same_constituency, same_refused, same_row}
 
--- two refusals of one place, whose cases both hold, are one
+-- two refusals at the same place in the order, whose cases both hold, are equal
 same_refusal : (totals : VoteTotals) (f g : SheetRefusal) → place_in_order f ≡ place_in_order g → IsBeforeSearch f → IsCaseOf totals f → IsCaseOf totals g → f ≡ g
 same_refusal totals (refusals.NoSeat c) (refusals.NoSeat d) e high a b = ap refusals.NoSeat (same_constituency totals c d a b)
 same_refusal totals (refusals.NoUpperSeats u) (refusals.NoUpperSeats v) e high a b = ap refusals.NoUpperSeats (same_refused totals u v a b)
 same_refusal totals (refusals.NoVotes c) (refusals.NoVotes d) e high a b = ap refusals.NoVotes (same_row totals c d a b)
 same_refusal totals _ _ e high a b = first_of (cc, grind arith)
 
--- the first case that holds is one
+-- the first case that holds is unique
 one_refusal : (totals : VoteTotals) (f g : SheetRefusal) → IsBeforeSearch f → IsFirstCase totals f → IsFirstCase totals g → f ≡ g
 one_refusal totals f g high a b =
     elim (cases_order (place_in_order f) (place_in_order g)) [
@@ -37,7 +37,7 @@ one_refusal totals f g high a b =
 pub memory_answer : {Sheet : Type 0} (totals : VoteTotals) → IsAnswer {Sheet = Sheet} totals (Err Memory)
 memory_answer {Sheet} totals = record { refused = tt; exactly = λ refusal high because. inr refl; tied = λ d g is. absurd (cc) }
 
--- a refusal in its place
+-- a refusal whose case is the first that holds
 pub refused_answer : {Sheet : Type 0} (totals : VoteTotals) (refusal : SheetRefusal) → IsFirstCase totals refusal →
     ((d g : ℕ) → refusal ≡ refusals.TiedLower d g → LeaveNoSeats totals) →
     IsAnswer {Sheet = Sheet} totals (Err (Refused refusal))
@@ -47,7 +47,7 @@ refused_answer {Sheet} totals refusal because none = record {
   tied = λ d g is. none d g (cc);
 }
 
--- nor is there what stands above
+-- then there are no seats above the lists either
 pub not_above : {T : Type 0} (Stands : T → Type 0) (totals : VoteTotals) (fault : SheetFault) → IfRefused fault IsBeforeLists →
     IsAnswer {Sheet = Distribution} totals (Err fault) → IsAboveLists Stands totals (Err fault)
 not_above {T} Stands totals fault early is = record { given = tt; refused = is; early = early }
@@ -87,21 +87,21 @@ pub none_untied : (totals : VoteTotals) (d : ℕ) → ¬ IsCaseOf totals refusal
 none_untied totals d untied refusals.TiedSeats before holds = untied holds
 none_untied totals d untied _ before holds = absurd (omega arith)
 
--- and each has one
+-- each constituency has a seat
 pub none_seated : (totals : VoteTotals) (seats : List ℕ) (u : UpperRefusal) → HaveSeats totals seats →
     NoneOf (λ other. place_in_order other < place_in_order (refusals.NoUpperSeats u)) totals
 none_seated totals seats u have (refusals.NoSeat d) before holds = none_without totals seats have d holds
 none_seated totals seats u have refusal before holds =
     none_untied totals 0 (not_tied totals seats have.in_proportion) refusal (omega arith) holds
 
--- and the groups have seats
+-- the groups have seats
 pub none_above_lists : (totals : VoteTotals) (seats : List ℕ) → HaveSeats totals seats → ((u : UpperRefusal) → ¬ IsRefusedAbove totals u) → NoneOf IsBeforeLists totals
 none_above_lists totals seats have none (refusals.NoUpperSeats u) before holds = none u holds
 none_above_lists totals seats have none (refusals.NoSeat d) before holds = none_without totals seats have d holds
 none_above_lists totals seats have none refusal before holds =
     none_untied totals 0 (not_tied totals seats have.in_proportion) refusal (omega arith) holds
 
--- and each constituency has votes
+-- each constituency has votes
 pub none_before_search : (totals : VoteTotals) → NoneOf IsBeforeLists totals → ((d : ℕ) → ¬ HasNoVotes totals d) → NoneOf IsBeforeSearch totals
 none_before_search totals before rows (refusals.NoVotes d) lt holds = rows d holds
 none_before_search totals before rows refusal lt holds = before refusal (omega arith) holds

@@ -17,13 +17,13 @@ numbers_suc a (suc n) =
     let last : a + 1 + n ≡ a + suc n = omega arith in
     ap (λ xs. a ∷ xs) (numbers_suc (a + 1) n ∙ ap (λ (x : ℕ). range_with_len (a + 1) n ++ x ∷ []) last)
 
--- 1, 2, .. n and one more
+-- the numbers from 1 to n, and one more
 pub numbers_more : (n : ℕ) → range_with_len 1 (n + 1) ≡ range_with_len 1 n ++ (n + 1) ∷ []
 numbers_more n =
     let last : 1 + n ≡ n + 1 = omega arith in
     ap (λ (k : ℕ). range_with_len 1 k) (add-one n) ∙ (numbers_suc 1 n ∙ ap (λ (x : ℕ). range_with_len 1 n ++ x ∷ []) last)
 
--- of the first n groups those with seats
+-- the groups with seats among the first n
 abbrev pub first_seated : List ℕ → ℕ → List ℕ
 first_seated upper n = filter (λ g. nat_lt 0 (get_or upper (g - 1) 0)) (range_with_len 1 n)
 
@@ -62,7 +62,7 @@ seated_are upper k d lt =
 pub seated_within : (upper : List ℕ) (n : ℕ) → length upper ≡ n → All (λ g. (1 ≤ g) × (g ≤ n)) (seated_groups upper)
 seated_within upper n long k d lt = let is = seated_are upper k d lt in (is.from_one, omega (arith, is.there, long))
 
--- where no group has seats, each has none
+-- if no group is seated, each has 0 seats
 none_first : (upper : List ℕ) (n : ℕ) → length (first_seated upper n) ≡ 0 → (k : ℕ) → k < n → get_or upper k 0 ≡ 0
 none_first upper zero none k lt = absurd (omega arith)
 none_first upper (suc n) none k lt =
@@ -118,7 +118,7 @@ rows_more totals seated n =
     ∙ (flat_map-append (λ d. map (votes_in totals d) seated) (range_with_len 1 n) ((n + 1) ∷ [])
     ∙ ap (λ xs. flat_map (λ d. map (votes_in totals d) seated) (range_with_len 1 n) ++ xs) (append-nil (map (votes_in totals (n + 1)) seated)))
 
--- one more of some numbers is put at the end
+-- one more of these numbers is appended
 pub put_more : (f : ℕ → ℕ) (old before after xs : List ℕ) (i n : ℕ) → i < length xs → before ≡ old ++ map f (take i xs) → n ≡ f (get_or xs i 0) →
     after ≡ before ++ n ∷ [] → after ≡ old ++ map f (take (i + 1) xs)
 put_more f old before after xs i n lt were is put =
@@ -127,6 +127,6 @@ put_more f old before after xs i n lt were is put =
     in
     put ∙ (ap (λ t. t ++ n ∷ []) were ∙ (append_assoc old (map f (take i xs)) (n ∷ []) ∙ ap (λ t. old ++ t) one_more))
 
--- all of them are put
+-- all of these numbers are appended
 pub put_all : (f : ℕ → ℕ) (old done xs : List ℕ) (i : ℕ) → length xs ≤ i → done ≡ old ++ map f (take i xs) → done ≡ old ++ map f xs
 put_all f old done xs i last are = are ∙ ap (λ ys. old ++ map f ys) (take_all i xs last)

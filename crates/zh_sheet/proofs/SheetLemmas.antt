@@ -36,7 +36,7 @@ column_there x g found is same =
     within (length (seated_groups x.upper.seats)) (length x.lower.divisors.of_columns) found
     (omega (arith, is.limits.columns.one_each)) (seated_at x g found same)
 
--- and is one of at most 32
+-- its place is below 32
 pub column_few : (x : Distribution) (g : ℕ) (found : Option ℕ) → IsDistribution x → found ≡ column_of x g → IfSome found (λ column. column < 32)
 column_few x g found is same =
     within (length (seated_groups x.upper.seats)) 32 found (few_seated x.totals (targets x is) is.totals.canton.groups.1) (seated_at x g found same)

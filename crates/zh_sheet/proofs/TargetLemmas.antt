@@ -1,5 +1,5 @@
--- What the sheet's parts follow from has one value: the seats of the constituencies, who takes part, the voter sums and the
--- seats of the groups.
+-- The targets of a sheet are unique: the seats of the constituencies, which groups take part, the voter sums, and the seats of
+-- the groups.
 use Rattle.std.proofs.Common.{◌≡◌, ℕ, suc, ◌+◌, ◌-◌, ◌≤◌, ◌↔◌, Bool, true, false, Some, List, [], ◌∷◌, length, get_or, slice_get, IsTrue, refl, inl, inr, ap, sym, ◌∙◌, subst, arith}
 use Rattle.std.proofs.lemmas.Bool.{cases_order}
 use Rattle.std.proofs.lemmas.List.{ext_get_or}
@@ -28,7 +28,7 @@ same_fit weights house seats others one other = only_fit weights house seats oth
 pub same_seats : (totals : VoteTotals) (seats others : List ℕ) → AreSeats totals.canton seats → AreSeats totals.canton others → others ≡ seats
 same_seats totals seats others one other = same_fit (persons totals.canton) totals.canton.house seats others one other
 
--- two numbers are the first of something
+-- the first of something is unique
 first_without : (seats : List ℕ) (c d : ℕ) → IsFirstWithout seats c → IsFirstWithout seats d → c ≡ d
 first_without seats c d one other =
     elim (cases_order c d) [
@@ -53,7 +53,7 @@ none_without totals seats have d without =
 pub not_tied : (totals : VoteTotals) (seats : List ℕ) → AreSeats totals.canton seats → ¬ fits.IsTied (persons totals.canton) totals.canton.house
 not_tied totals seats fit tied = no_strict_fit (persons totals.canton) totals.canton.house seats tied fit
 
--- two tests with one meaning
+-- two tests with the same meaning have the same result
 same_test : (a b : Bool) (P : Type 0) → IsTrue a ↔ P → IsTrue b ↔ P → a ≡ b
 same_test true true P one other = refl
 same_test false false P one other = refl
@@ -80,7 +80,7 @@ same_sums totals seats a b one other =
     first ∙ sym second
     )
 
--- seats with one value for those that take part and none for the others
+-- seats are equal if they are equal for those that take part, and 0 for the others
 same_spread : (taking : List Bool) (xs ys : List ℕ) → length xs ≡ length taking → length ys ≡ length taking →
     of_participants xs taking ≡ of_participants ys taking →
     ((g : ℕ) → slice_get taking g ≡ Some false → get_or xs g 0 ≡ 0) → ((g : ℕ) → slice_get taking g ≡ Some false → get_or ys g 0 ≡ 0) → xs ≡ ys
@@ -143,13 +143,13 @@ same_row totals c d one other =
     let first : IsFirstWithoutVotes (lower_question totals one.targets.seats one.targets.upper) d = subst (λ q. IsFirstWithoutVotes q d) e other.first in
     first_row (lower_question totals one.targets.seats one.targets.upper) c d one.first first
 
--- the seats of the constituencies, who takes part, and the voter sums
+-- the seats of the constituencies, which groups take part, and the voter sums
 pub record IsBasis (t : VoteTotals) (seats : List ℕ) (taking : List Bool) (voters : List ℕ) : Type 0 where
   pub constituencies : HaveSeats t seats
   pub participation : AreParticipating t taking
   pub sums : AreVoterSums t seats voters
 
--- the reason why the groups get no seats stands by them
+-- the reason why the groups get no seats holds for them
 pub reason_above : (totals : VoteTotals) (seats : List ℕ) (taking : List Bool) (voters : List ℕ) → IsBasis totals seats taking voters →
     (refusal : UpperRefusal) → IsRefusedAbove totals refusal → HaveNoUpperSeats voters taking totals.canton.house refusal
 reason_above totals seats taking voters is refusal above =
@@ -159,7 +159,7 @@ reason_above totals seats taking voters is refusal above =
     let sums : above.voters ≡ voters = same_sums totals seats above.voters voters own is.sums in
     rw (← sums, ← part) above.reason
 
--- it is one
+-- that reason is unique
 pub same_refused : (totals : VoteTotals) (one other : UpperRefusal) → IsRefusedAbove totals one → IsRefusedAbove totals other → one ≡ other
 same_refused totals one other a b =
     let is : IsBasis totals a.seats a.taking a.voters = record { constituencies = a.constituencies; participation = a.participation; sums = a.sums } in

@@ -21,12 +21,12 @@ pub record Distribution : Type 0 where
   pub upper : Apportionment
   pub lower : SeatMatrix
 
--- the seats of the constituencies are in proportion to their persons, and each has one
+-- the seats of the constituencies are in proportion to their persons, and each constituency has at least one
 pub record HaveSeats (totals : VoteTotals) (seats : List ℕ) : Type 0 where
   pub in_proportion : AreSeats totals.canton seats
   pub each : (k : ℕ) → k < length seats → 1 ≤ slice_index seats k
 
--- the seats of the constituencies and of the groups in the whole canton, to which the seats of the lists are to add up
+-- the seats of the constituencies, and of the groups in the whole canton; the seats of the lists are to add up to both
 pub record Targets (totals : VoteTotals) : Type 0 where
   pub seats : List ℕ
   pub taking : List Bool
@@ -51,11 +51,11 @@ lower_question totals seats upper = record {
   column_totals = map (λ g. slice_index upper (g - 1)) (seated_groups upper);
 }
 
--- what a distribution asks of the lower apportionment
+-- the question of a distribution for the lower apportionment
 abbrev pub question_of : Distribution → Question
 question_of x = lower_question x.totals x.seats.seats x.upper.seats
 
--- each part follows from the parts before it, and the seats of the lists from the divisors in millionths, with no quotient
+-- each part follows from the parts before it, and the seats of the lists follow from divisors in millionths, with no quotient
 -- on a half
 pub record IsDistribution (x : Distribution) : Type 0 where
   pub totals : AreTotals x.totals

@@ -1,4 +1,4 @@
--- A sheet whose seats of the lists and divisors are given: whether they are a distribution of the votes.
+-- Given seats of the lists and divisors: whether they are a distribution of the votes.
 use Rattle.std.specs.Prelude.{◌≡◌, ℕ, ◌*◌, ◌^◌, ◌≤◌, Option, Some, IfSome, List, All, length}
 use Rattle.zh_matrices.specs.Divisors.{AreWithin, AreWithinLimits, millionths}
 use Rattle.zh_matrices.specs.Question.{Question}
@@ -8,7 +8,7 @@ use Rattle.zh_totals.specs.Totals.{VoteTotals}
 use Rattle.zh_sheet.specs.Distribution.{Distribution, IsDistribution}
 use Rattle.zh_sheet.specs.Refusals.{IsBeforeLists, NoneOf}
 
--- a distribution as it may be published: a sheet shows all of its votes, and none is refused before the lists
+-- a distribution that may be published: a sheet shows all of its votes, and no case before those of the lists holds
 pub record IsPublished (x : Distribution) : Type 0 where
   pub distribution : IsDistribution x
   pub votes : NoneHidden x.totals
@@ -23,14 +23,14 @@ pub record DoFollow (q : Question) (lists : SeatMatrix) : Type 0 where
   pub strict : IsStrict q lists.divisors lists.seats
   pub limits : AreWithinLimits q lists.divisors.of_rows lists.divisors.of_columns
 
--- lists of m rows and n columns, with divisors within the limits and at most 400 seats each
+-- m rows and n columns, with divisors within the limits and at most 400 seats for each list
 pub record DoFit (m n : ℕ) (lists : SeatMatrix) : Type 0 where
   pub rows : AreWithin m (10 ^ 18) lists.divisors.of_rows
   pub columns : AreWithin n (10 ^ 12) lists.divisors.of_columns
   pub one_each : length lists.seats ≡ m * n
   pub few : All (λ s. s ≤ 400) lists.seats
 
--- the distribution of these totals with these lists, exactly where there is one
+-- the distribution of these totals with these lists, if and only if there is one
 pub record IsGiven (totals : VoteTotals) (lists : SeatMatrix) (sheet : Option Distribution) : Type 0 where
   pub votes : IfSome sheet (λ x. x.totals ≡ totals)
   pub seats : IfSome sheet (λ x. x.lower ≡ lists)

@@ -1,4 +1,4 @@
--- What the fields of a sheet stand for.
+-- What the fields of a sheet mean.
 use Rattle.std.specs.Prelude.{◌≡◌}
 use Rattle.zh_sheet.specs.Distribution.{Distribution, IsDistribution, seated_groups}
 use Rattle.zh_sheet.specs.declared.sheet.Sheet.TheInside.{Inside}
@@ -13,7 +13,7 @@ distribution_in s = record {
   lower = s.lower;
 }
 
--- the parts follow from one another, and the seated groups are at hand
+-- the parts are a distribution, and `seated` contains the seated groups
 pub record IsSheetInside (s : Inside) : Type 0 where
   pub distribution : IsDistribution (distribution_in s)
   pub seated : s.seated.items ≡ seated_groups s.upper.seats

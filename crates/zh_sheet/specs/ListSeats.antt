@@ -1,7 +1,7 @@
 -- The seats of the lists without divisors.
 use Rattle.std.specs.Prelude.{ℕ, List}
 
--- those of the groups with these numbers, by constituency and then group
+-- the seats of the lists of these groups, by constituency and then group
 pub record SeatsOfLists : Type 0 where
   pub constituencies : ℕ
   pub groups : List ℕ

@@ -1,4 +1,4 @@
--- What the lot decides where seats are tied, in the numbers of the set-up.
+-- What the lot decides if seats are tied, in the numbers of the set-up.
 use Rattle.std.specs.Prelude.{◌≡◌, ℕ, Bool, Option, Some, None, List, length}
 use Rattle.zh_districts.specs.Claims.{IsTiedIn, Tell}
 use Rattle.zh_matrices.specs.Lots.{AreRanges}
@@ -15,7 +15,7 @@ use Rattle.zh_sheet.specs.declared.lot.Lot.TheVariants.{Constituencies, Groups, 
 use Rattle.zh_sheet.specs.declared.fault.SheetRefusal.{SheetRefusal}
 use Rattle.zh_sheet.specs.declared.fault.SheetRefusal.TheVariants as refusals
 
--- for each group in order the fewest and the most seats that it has in the whole canton, over all seats that fit
+-- the fewest and the most seats of each group in the whole canton, in order, over all seats that fit
 pub record AreGroupRanges (totals : VoteTotals) (x : SeatRanges) : Type 0 where
   pub seats : List ℕ
   pub constituencies : HaveSeats totals seats
@@ -25,21 +25,22 @@ pub record AreGroupRanges (totals : VoteTotals) (x : SeatRanges) : Type 0 where
   pub sums : AreVoterSums totals seats voters
   pub ranges : AreUpperRanges voters taking totals.canton.house x.least.items x.most.items
 
--- for each list of the seated groups the fewest and the most seats that it has, over all matrices that may be drawn
+-- the fewest and the most seats of each list of the seated groups, over all matrices that may be drawn
 pub record AreListRanges (totals : VoteTotals) (x : RangesOfLists) : Type 0 where
   pub targets : Targets totals
   pub constituencies : x.constituencies ≡ length totals.canton.constituencies
   pub groups : x.groups ≡ seated_groups targets.upper
   pub ranges : AreRanges (lower_question totals targets.seats targets.upper) x.least x.most
 
--- the seats of the constituencies, of the groups or of the lists are tied
+-- the refusal says that the seats of the constituencies, of the groups or of the lists are tied
 abbrev pub IsForTheLot : SheetRefusal → Type 0
 IsForTheLot refusals.TiedSeats = Unit {0}
 IsForTheLot (refusals.NoUpperSeats Tied) = Unit {0}
 IsForTheLot (refusals.TiedLower d g) = Unit {0}
 IsForTheLot refusal = ⊥
 
--- what it decides: to which constituencies a seat is worth as much as to another, or the ranges of the groups or of the lists
+-- what the lot decides: between constituencies to which a seat is worth as much as to another, or the seats of groups or lists
+-- within these ranges
 abbrev pub IsLotOf : VoteTotals → SheetRefusal → Lot → Type 0
 IsLotOf totals refusals.TiedSeats (Constituencies marks) =
     Tell (IsTiedIn totals.canton) (length totals.canton.constituencies) marks.items
@@ -47,7 +48,7 @@ IsLotOf totals (refusals.NoUpperSeats Tied) (Groups x) = AreGroupRanges totals x
 IsLotOf totals (refusals.TiedLower d g) (Lists x) = AreListRanges totals x
 IsLotOf totals refusal lot = ⊥
 
--- that, exactly where seats are tied
+-- there is something for the lot to decide if and only if seats are tied
 abbrev pub IsLotFor : VoteTotals → SheetRefusal → Option Lot → Type 0
 IsLotFor totals refusal (Some lot) = IsLotOf totals refusal lot
 IsLotFor totals refusal None = ¬ IsForTheLot refusal

@@ -1,4 +1,4 @@
--- What is made of the votes of an election: its sheet, or why there is none.
+-- The result of the votes of an election: its sheet, or why there is none.
 use Rattle.std.specs.Prelude.{◌≡◌, ℕ, List, Result, IfOk}
 use Rattle.zh_matrices.specs.Divisors.{Divisors}
 use Rattle.zh_matrices.specs.SeatMatrix.{IsWeak}
@@ -8,8 +8,8 @@ use Rattle.zh_sheet.specs.Distribution.{Distribution, IsDistribution, question_o
 use Rattle.zh_sheet.specs.Refusals.{IsAnswer}
 use Rattle.zh_sheet.specs.declared.fault.SheetFault.{SheetFault}
 
--- the distribution of the seats by these totals: each part follows from those before it, no divisors lead to other seats,
--- and the divisors of the lists are those that are shown
+-- the distribution of the seats for these totals: each part follows from those before it, no divisors give other seats, and the
+-- divisors of the lists are those that a sheet shows
 pub record IsSheetOf (totals : VoteTotals) (sheet : Distribution) : Type 0 where
   pub votes : sheet.totals ≡ totals
   pub meets : IsDistribution sheet

@@ -11,6 +11,6 @@ column_of x g = position (λ seated. seated == g) (seated_groups x.upper.seats)
 abbrev pub takes_part : Distribution → ℕ → Bool
 takes_part x g = slice_index_or x.taking (g - 1) false
 
--- the seats of a list: none where its group has none
+-- the seats of a list, 0 if its group has none
 abbrev pub list_seats : Distribution → ℕ → ℕ → ℕ
 list_seats x d g = option_map_or (λ column. seats_of x.lower d (column + 1)) (column_of x g) 0

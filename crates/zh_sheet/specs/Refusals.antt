@@ -21,7 +21,7 @@ use Rattle.zh_sheet.specs.declared.fault.SheetFault.TheVariants.{Memory, Refused
 use Rattle.zh_sheet.specs.declared.fault.SheetRefusal.{SheetRefusal}
 use Rattle.zh_sheet.specs.declared.fault.SheetRefusal.TheVariants as refusals
 
--- this constituency, the first such, gets no seat
+-- this constituency is the first that gets no seat
 pub record GetsNoSeat (totals : VoteTotals) (d : ℕ) : Type 0 where
   pub seats : List ℕ
   pub in_proportion : AreSeats totals.canton seats
@@ -37,12 +37,13 @@ pub record IsRefusedAbove (totals : VoteTotals) (refusal : UpperRefusal) : Type 
   pub sums : AreVoterSums totals seats voters
   pub reason : HaveNoUpperSeats voters taking totals.canton.house refusal
 
--- the seated groups have no votes in this constituency, the first such
+-- this constituency is the first in which the seated groups have no votes
 pub record HasNoVotes (totals : VoteTotals) (d : ℕ) : Type 0 where
   pub targets : Targets totals
   pub first : IsFirstWithoutVotes (lower_question totals targets.seats targets.upper) d
 
--- some divisors lead to two different matrices, and their first quotient on a half is that of group g in constituency d
+-- the search reaches divisors from which two different matrices follow; their first quotient on a half is that of group g in
+-- constituency d
 pub record IsTiedBelow (totals : VoteTotals) (d g : ℕ) : Type 0 where
   pub targets : Targets totals
   pub column : ℕ
@@ -51,7 +52,7 @@ pub record IsTiedBelow (totals : VoteTotals) (d g : ℕ) : Type 0 where
   pub of_group : slice_index (seated_groups targets.upper) (column - 1) ≡ g
   pub tied : ComesToTie (lower_question totals targets.seats targets.upper) d column
 
--- none of the states of the search leads to seats, and the question is not decided by divisors in millionths
+-- no state of the search gives seats or is tied, and the decision gives no divisors in millionths
 pub record IsExhausted (totals : VoteTotals) : Type 0 where
   pub targets : Targets totals
   pub none : NoneBefore (lower_question totals targets.seats targets.upper) 2001
@@ -66,7 +67,7 @@ IsCaseOf totals (refusals.NoVotes d) = HasNoVotes totals d
 IsCaseOf totals (refusals.TiedLower d g) = IsTiedBelow totals d g
 IsCaseOf totals refusals.Exhausted = IsExhausted totals
 
--- the place of a refusal in their order
+-- the place of a refusal in the order of the cases
 abbrev pub place_in_order : SheetRefusal → ℕ
 place_in_order refusals.TiedSeats = 1
 place_in_order (refusals.NoSeat d) = 2
@@ -75,7 +76,7 @@ place_in_order (refusals.NoVotes d) = 4
 place_in_order (refusals.TiedLower d g) = 5
 place_in_order refusals.Exhausted = 5
 
--- the name of each; 32 is the space
+-- the name of each refusal; 32 is the space
 abbrev pub refusal_name : SheetRefusal → List ℕ
 refusal_name refusals.TiedSeats = seats_name of_seats.Tied
 refusal_name (refusals.NoSeat constituency) = seats_name (of_seats.NoSeat constituency)
@@ -91,15 +92,15 @@ IsSheetRefusal (refusals.NoVotes constituency) = constituency < 2 ^ 32
 IsSheetRefusal (refusals.TiedLower constituency group) = (constituency < 2 ^ 32) × (group < 2 ^ 32)
 IsSheetRefusal refusal = Unit {0}
 
--- it comes before those of the lists, the first of which is for a constituency without votes, whatever its number
+-- the refusal comes before those of the lists, the first of which is a constituency without votes, whatever its number
 abbrev pub IsBeforeLists : SheetRefusal → Type 0
 IsBeforeLists refusal = place_in_order refusal < place_in_order (refusals.NoVotes 0)
 
--- it comes before those of the search
+-- the refusal comes before those of the search
 abbrev pub IsBeforeSearch : SheetRefusal → Type 0
 IsBeforeSearch refusal = place_in_order refusal < place_in_order refusals.Exhausted
 
--- the case of none of these holds
+-- no refusal of this kind has a case that holds
 abbrev pub NoneOf : (SheetRefusal → Type 0) → VoteTotals → Type 0
 NoneOf Of totals = (refusal : SheetRefusal) → Of refusal → ¬ IsCaseOf totals refusal
 
@@ -108,19 +109,19 @@ pub record IsFirstCase (totals : VoteTotals) (refusal : SheetRefusal) : Type 0 w
   pub holds : IsCaseOf totals refusal
   pub first : NoneOf (λ other. place_in_order other < place_in_order refusal) totals
 
--- No seats of the lists follow from these totals without a half, under any divisors, of any scale, whatever seats of the
--- constituencies and of the groups they are to add up to.
+-- No divisors of any scale give seats of the lists for these totals without a half, whatever seats of the constituencies and of
+-- the groups they are to add up to.
 abbrev pub LeaveNoSeats : VoteTotals → Type 0
 LeaveNoSeats totals = (targets : Targets totals) (divisors : Divisors) (seats : List ℕ) →
     ¬ IsStrict (lower_question totals targets.seats targets.upper) divisors seats
 
--- P of the refusal, unless memory was refused, which it can be at any time
+-- the refusal has the property P; nothing is said if memory was refused, which is possible at any time
 abbrev pub IfRefused : SheetFault → (SheetRefusal → Type 0) → Type 0
 IfRefused Memory P = Unit {0}
 IfRefused (Refused refusal) P = P refusal
 
--- the refusals before those of the search come exactly where their case is the first that holds, memory aside; a tie of the
--- lower apportionment leaves no seats that could be right
+-- each refusal that is given is that of the first case that holds; those before the search are always given if they are the
+-- first, unless memory is refused; at a tie of the lower apportionment, no seats follow strictly
 pub record IsAnswer {Sheet : Type 0} (totals : VoteTotals) (result : Result Sheet SheetFault) : Type 0 where
   pub refused : IfErr result (λ fault. IfRefused fault (IsFirstCase totals))
   pub exactly : (refusal : SheetRefusal) → IsBeforeSearch refusal → IsFirstCase totals refusal →

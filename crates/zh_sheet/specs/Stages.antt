@@ -1,4 +1,4 @@
--- What stands between the steps to a sheet.
+-- The intermediate results on the way to a sheet.
 use Rattle.std.specs.Prelude.{◌≡◌, ◌≤◌, Result, Err, IfOk, IfErr}
 use Rattle.zh_districts.specs.declared.shares.SeatFault.{SeatFault}
 use Rattle.zh_districts.specs.declared.shares.SeatFault.TheVariants as seat_faults
@@ -21,7 +21,7 @@ use Rattle.zh_sheet.specs.declared.fault.SheetFault.TheVariants.{Memory, Refused
 use Rattle.zh_sheet.specs.declared.fault.SheetRefusal.TheVariants as refusals
 use Rattle.zh_sheet.specs.declared.list_question.ListQuestion.{ListQuestion}
 
--- the refusals of a sheet for those of the parts below
+-- the faults of a sheet for the faults of the parts below
 abbrev pub of_seats : SeatFault → SheetFault
 of_seats seat_faults.Memory = Memory
 of_seats seat_faults.Tied = Refused refusals.TiedSeats
@@ -31,7 +31,8 @@ abbrev pub of_upper : UpperFault → SheetFault
 of_upper upper_faults.Memory = Memory
 of_upper (upper_faults.Refused refusal) = Refused (refusals.NoUpperSeats refusal)
 
--- the seats of the constituencies and of the groups follow from what is beside them; no case before those of the lists holds
+-- the seats of the constituencies and of the groups follow from the rest of `above`, and no case before those of the lists
+-- holds
 pub record StandAbove (totals : VoteTotals) (above : Above) : Type 0 where
   pub constituencies : HaveSeats totals above.seats.seats
   pub seats_key : HasDivisor (persons totals.canton) above.seats
@@ -41,13 +42,14 @@ pub record StandAbove (totals : VoteTotals) (above : Above) : Type 0 where
   pub upper_key : HasDivisor (of_participants above.voters.items above.taking.items) (shares_of_participants above.upper above.taking.items)
   pub none : NoneOf IsBeforeLists totals
 
--- what stands before the lists are looked for, or this is why there is no sheet: a case before those of the lists
+-- what there is before the lists get seats; or why there is no sheet, which is a case before those of the lists
 pub record IsAboveLists {T : Type 0} (Stands : T → Type 0) (totals : VoteTotals) (result : Result T SheetFault) : Type 0 where
   pub given : IfOk result Stands
   pub refused : IfErr result (λ fault. IsAnswer {Sheet = Distribution} totals (Err fault))
   pub early : IfErr result (λ fault. IfRefused fault IsBeforeLists)
 
--- what a lower apportionment may be asked: 1 to 32 lines, each with a total of 1 to 400 seats, and votes in each column
+-- a question that the lower apportionment accepts: 1 to 32 lines each way, each with a total of 1 to 400 seats, and votes in
+-- each column
 pub record CanBeAsked (q : Question) : Type 0 where
   pub some_row : 1 ≤ q.rows
   pub few_rows : q.rows ≤ 32
@@ -57,11 +59,11 @@ pub record CanBeAsked (q : Question) : Type 0 where
   pub column_totals : AreSeatTotals q.columns q.column_totals
   pub votes : EachColumnHasVotes q
 
--- what is asked of the lower apportionment
+-- the question that the code asks the lower apportionment
 abbrev pub question_in : ListQuestion → Question
 question_in x = question x.matrix x.above.seats.seats x.column_totals.items
 
--- by these totals, where the seats above stand
+-- the question is that of these totals, and the seats of the constituencies and of the groups follow from them
 pub record IsAsked (totals : VoteTotals) (x : ListQuestion) : Type 0 where
   pub limits : AreTotals totals
   pub above : StandAbove totals x.above
@@ -70,7 +72,7 @@ pub record IsAsked (totals : VoteTotals) (x : ListQuestion) : Type 0 where
   pub can : CanBeAsked (question_in x)
   pub balanced : AreBalanced (question_in x)
 
--- the distribution of what stands above with these lists
+-- the distribution of these seats of the constituencies and of the groups, with these lists
 abbrev pub distribution_with : VoteTotals → Above → SeatMatrix → Distribution
 distribution_with totals above lists = record {
   totals = totals;

@@ -1,4 +1,4 @@
-//! The seats above the lists: those of the constituencies and of the groups.
+//! The seats of the constituencies and of the groups, which come before those of the lists.
 ghost use Rattle.zh_sheet.specs.Stages.{IsAboveLists, StandAbove};
 
 use crate::fault::SheetFault;
@@ -9,7 +9,7 @@ use zh_quorum::participating;
 use zh_totals::Totals;
 use zh_upper::{Upper, upper, voters};
 
-/// The seats of the constituencies and of the groups, with what they follow from.
+/// The seats of the constituencies and of the groups, with everything that they follow from.
 #[derive(Drop)]
 pub(crate) struct Above {
     pub seats: Shares,
@@ -18,7 +18,7 @@ pub(crate) struct Above {
     pub upper: Upper,
 }
 
-/// These seats by the totals, or the first reason why there are none.
+/// The seats of the constituencies and of the groups for these totals, or the first reason why there are none.
 pub(crate) fn seats_above(alloc: Global, totals: &Totals<'_>) -> Result<Above, SheetFault>
     ensures { IsAboveLists (StandAbove totals.now) totals.now result }
 {

@@ -59,22 +59,22 @@ impl From<UpperFault> for SheetFault {
     }
 }
 
-/// Why there is no sheet, in the order in which the cases are looked for (docs/FORMATS.md, "Replies").
-/// Constituencies and groups are numbered from 1 as in the set-up.
+/// Why there is no sheet, in the order in which the cases are checked (docs/FORMATS.md, "Replies"). Constituencies and groups
+/// are numbered from 1, as in the set-up.
 #[derive(Clone, Copy, Debug, PartialEq, Eq)]
 pub enum SheetRefusal {
-    /// A seat of the house is worth as much to two constituencies.
+    /// A seat of the house is worth as much to one constituency as to another.
     TiedSeats,
-    /// This constituency, the first such, gets no seat.
+    /// This constituency is the first that gets no seat.
     NoSeat(u32),
     /// The groups get no seats, for this reason.
     NoUpperSeats(UpperRefusal),
-    /// The groups with seats have no votes in this constituency, the first such.
+    /// This constituency is the first in which the groups with seats have no votes.
     NoVotes(u32),
-    /// Some divisors lead to two different distributions; the first quotient on a half is that of this constituency and
+    /// Two different distributions follow from the same divisors. The first quotient on a half is that of this constituency and
     /// group.
     TiedLower(u32, u32),
-    /// The search for divisors ended without any.
+    /// The search found neither seats nor a tie, and the decision gave no seats either.
     Exhausted,
 }
 

@@ -1,4 +1,4 @@
-//! A sheet from seats of the lists and divisors that are given: no search.
+//! A sheet from given seats of the lists and given divisors, without a search.
 ghost use Rattle.std.specs.Prelude.{◌≡◌, ◌≤◌, ◌↔◌, IfOk, IsTrue, length};
 ghost use Rattle.zh_matrices.specs.Divisors.{AreWithin};
 ghost use Rattle.zh_sheet.specs.Given.{DoFit, DoFollow, IsGiven, given_lists};
@@ -28,7 +28,7 @@ fn none_hidden_in(totals: &Totals<'_>, constituency: u32) -> bool
     true
 }
 
-/// Whether each list with votes stands.
+/// Whether each list with votes stands in the constituency where it has them.
 fn none_hidden(totals: &Totals<'_>) -> bool
     ensures { IsTrue result ↔ NoneHidden totals.now }
 {
@@ -40,14 +40,14 @@ fn none_hidden(totals: &Totals<'_>) -> bool
     true
 }
 
-/// Whether there is a divisor for each of these lines, from 1 to the most.
+/// Whether there is one divisor for each of these lines, from 1 to `most`.
 fn are_within(lines: usize, most: u64, divisors: &[u64]) -> bool
     ensures { IsTrue result ↔ AreWithin lines most divisors.now }
 {
     divisors.len() == lines && divisors.iter().all(|x| *x >= 1 && *x <= most)
 }
 
-/// Whether lists have this size, with divisors within the limits and at most 400 seats each.
+/// Whether seats and divisors have these sizes, the divisors are within the limits, and each list has at most 400 seats.
 fn do_fit(
     rows: usize,
     columns: usize,
@@ -65,7 +65,7 @@ fn do_fit(
         && seats.iter().all(|x| *x <= 400)
 }
 
-/// Whether the seats of the lists follow from the divisors, which are within the limits.
+/// Whether the divisors are within the limits, and the seats of the lists follow from them.
 fn do_follow(
     asked: &ListQuestion,
     seats: &[u32],
@@ -89,7 +89,7 @@ fn do_follow(
         )
 }
 
-/// The sheet with these lists, where they follow from what is asked.
+/// The sheet with these seats and divisors of the lists. None if they do not follow from what is asked.
 fn with_given<'s>(
     alloc: Global,
     totals: &Totals<'s>,
@@ -110,12 +110,12 @@ fn with_given<'s>(
     Ok(Some(Sheet::with_lists(totals, asked, lower)))
 }
 
-/// The sheet of these totals with these seats of the lists and these divisors, or `None` where they are no distribution of
-/// these totals. Nothing is searched: any divisors do that give the seats with no quotient on a half.
+/// The sheet of these totals with these seats of the lists and these divisors. None if they are not a distribution of these
+/// totals. There is no search: any divisors will do that give the seats with no quotient on a half. Fails if memory is refused.
 ///
-/// The seats are those of the groups with seats in the whole canton, constituency by constituency. There is a divisor in
-/// millionths for each constituency, 1 to 10^18, and for each of those groups, 1 to 10^12. Totals with votes of lists that
-/// do not stand, which no sheet shows, have none.
+/// `seats` are those of the groups with seats in the whole canton, constituency by constituency. Divisors are in millionths: 1
+/// to 10^18 for each constituency, and 1 to 10^12 for each of those groups. If a list has votes where it does not stand, there
+/// is no sheet of the totals, since no sheet shows such votes.
 pub fn given<'s>(
     alloc: Global,
     totals: &Totals<'s>,

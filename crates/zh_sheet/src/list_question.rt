@@ -1,4 +1,4 @@
-//! What the lower apportionment is asked: constituencies in rows, and seated groups in columns.
+//! The question for the lower apportionment: constituencies in rows, and seated groups in columns.
 ghost use Rattle.std.specs.List.{range_with_len};
 ghost use Rattle.std.specs.Prelude.{◌≡◌, ◌-◌, ◌≤◌, length, IfOk, ◌^◌, ◌++◌, ◌==◌, All, OnOk, flat_map, map, position};
 ghost use Rattle.std.specs.Prelude.{slice_index};
@@ -13,7 +13,8 @@ use zh_matrices::{Matrix, Question};
 use zh_totals::Totals;
 use zh_upper::Upper;
 
-/// The votes of the seated groups in the constituencies, and the seats that both are to get, with what those follow from.
+/// The votes of the seated groups in each constituency, and the seats that constituencies and groups are to get, with
+/// everything that these seats follow from.
 #[derive(Drop)]
 pub(crate) struct ListQuestion {
     pub above: Above,
@@ -26,7 +27,7 @@ pub(crate) struct ListQuestion {
 impl ListQuestion {
     ghost use Rattle.zh_matrices.specs.Asked.{asked};
 
-    /// That of these totals, or the first reason why there are no seats above the lists.
+    /// The question for these totals, or the first reason why constituencies or groups get no seats.
     pub fn of(alloc: Global, totals: &Totals<'_>) -> Result<ListQuestion, SheetFault>
         ensures { IsAboveLists (IsAsked totals.now) totals.now result }
     {
@@ -71,7 +72,7 @@ fn seats_of(alloc: Global, upper: &Upper, seated: &[u32]) -> Result<Vec<u32>, Al
     Ok(seats)
 }
 
-/// Puts the votes of these groups in a constituency at the end.
+/// Appends the votes of these groups in a constituency.
 fn push_votes(
     votes: &mut Vec<u64>,
     totals: &Totals<'_>,
@@ -105,7 +106,7 @@ fn votes_of(alloc: Global, totals: &Totals<'_>, seated: &[u32]) -> Result<Vec<u6
     Ok(votes)
 }
 
-/// The place of a group among these, from 0.
+/// The place of a group among these, from 0. None if it is not among them.
 pub(crate) fn column_of(seated: &[u32], group: u32) -> Option<usize>
     ensures { result ≡ position (λ seated. seated == group) seated.now }
 {

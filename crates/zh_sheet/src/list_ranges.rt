@@ -1,10 +1,10 @@
-//! The fewest and the most seats that lists may have.
+//! The fewest and the most seats that lists can have.
 ghost use Rattle.std.specs.Prelude.{◌≡◌, ◌-◌, ◌*◌, ◌≤◌, length};
 ghost use Rattle.zh_matrices.specs.Question.{cell};
 
 use std::marker::Model;
 
-/// The fewest and the most seats of the lists of the seated groups in each constituency, where the lot decides.
+/// The fewest and the most seats of the lists of the seated groups in each constituency, if the lot decides.
 #[derive(Drop)]
 pub struct ListRanges {
     constituencies: u32,
@@ -31,7 +31,7 @@ impl Model for ListRanges {
 }
 
 impl ListRanges {
-    /// Those of these groups, by constituency and then group.
+    /// The ranges of the lists of these groups, by constituency and then group.
     pub(crate) fn new(
         constituencies: u32,
         groups: Vec<u32>,
@@ -65,7 +65,7 @@ impl ListRanges {
         &self.groups
     }
 
-    /// The fewest seats of the list of a group, given by its place from 1 among these, in a constituency.
+    /// The fewest seats of a list in a constituency. Its group is in this place of `groups`, counted from 1.
     pub fn least(&self, constituency: u32, place: u32) -> u32
         requires from_one { 1 ≤ constituency }
         requires there { constituency ≤ self.now.constituencies }
@@ -77,7 +77,7 @@ impl ListRanges {
         self.least[before + (place - 1) as usize]
     }
 
-    /// The most seats of that list.
+    /// The most seats of a list in a constituency. Its group is in this place of `groups`, counted from 1.
     pub fn most(&self, constituency: u32, place: u32) -> u32
         requires from_one { 1 ≤ constituency }
         requires there { constituency ≤ self.now.constituencies }

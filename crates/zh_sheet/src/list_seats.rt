@@ -4,7 +4,7 @@ ghost use Rattle.zh_matrices.specs.Question.{cell};
 
 use std::marker::Model;
 
-/// The seats of the lists of the seated groups in each constituency, for which there are no divisors to show.
+/// The seats of the lists of the seated groups in each constituency, if there are no divisors to show.
 #[derive(Drop)]
 pub struct ListSeats {
     constituencies: u32,
@@ -24,7 +24,7 @@ impl Model for ListSeats {
 }
 
 impl ListSeats {
-    /// The seats of these groups, by constituency and then group.
+    /// The seats of the lists of these groups, by constituency and then group.
     pub(crate) fn new(constituencies: u32, groups: Vec<u32>, seats: Vec<u32>) -> Self
         requires seats { length seats.items ≡ constituencies * length groups.items }
         requires groups { length groups.items ≤ 32 }
@@ -51,7 +51,7 @@ impl ListSeats {
         &self.groups
     }
 
-    /// The seats of the list of a group, given by its place from 1 among these, in a constituency.
+    /// The seats of a list in a constituency. Its group is in this place of `groups`, counted from 1.
     pub fn seats(&self, constituency: u32, place: u32) -> u32
         requires from_one { 1 ≤ constituency }
         requires there { constituency ≤ self.now.constituencies }

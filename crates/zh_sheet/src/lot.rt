@@ -1,4 +1,4 @@
-//! What the lot decides where seats are tied.
+//! What the lot decides if seats are tied.
 ghost use Rattle.std.specs.Prelude.{IfOk};
 ghost use Rattle.zh_sheet.specs.Lots.{AreGroupRanges, AreListRanges, IsLotFor};
 ghost use Rattle.zh_sheet.specs.Reasons.{HaveNoSheet, IsListTie, sheet_fault};
@@ -15,19 +15,19 @@ use zh_quorum::participating;
 use zh_totals::Totals;
 use zh_upper::{SeatRanges, UpperRefusal, upper_ranges, voters};
 
-/// What the lot decides where seats are tied, in the numbers of the set-up.
+/// What the lot decides if seats are tied. Constituencies and groups are numbered as in the set-up.
 #[derive(Drop)]
 pub enum Lot {
-    /// Between which constituencies: those that are marked.
+    /// The lot decides between the constituencies that are marked.
     Constituencies(Vec<bool>),
-    /// The fewest and the most seats of each group.
+    /// The fewest and the most seats of each group in the whole canton.
     Groups(SeatRanges),
     /// The fewest and the most seats of each list of the seated groups.
     Lists(ListRanges),
 }
 
-/// The fewest and the most seats of each group, where those are tied. The constituencies have seats, so that only memory can
-/// be refused.
+/// The fewest and the most seats of each group, if the seats of the groups are tied. The constituencies then have seats, so
+/// this fails only if memory is refused.
 fn tied_groups(alloc: Global, totals: &Totals<'_>) -> Result<SeatRanges, AllocError>
     requires { IsRefusedAbove totals.now Tied }
     ensures { IfOk result (AreGroupRanges totals.now) }
@@ -41,7 +41,7 @@ fn tied_groups(alloc: Global, totals: &Totals<'_>) -> Result<SeatRanges, AllocEr
     upper_ranges(alloc, &voters, &taking, setup.house())
 }
 
-/// The fewest and the most seats of each list, where those are tied.
+/// The fewest and the most seats of each list, if the seats of the lists are tied. Fails if memory is refused.
 fn tied_lists(alloc: Global, totals: &Totals<'_>, tied: &ListTie) -> Result<ListRanges, AllocError>
     requires { IsListTie totals.now tied.now }
     ensures { IfOk result (AreListRanges totals.now) }
@@ -55,7 +55,8 @@ fn tied_lists(alloc: Global, totals: &Totals<'_>, tied: &ListTie) -> Result<List
     Ok(ListRanges::new(totals.setup().constituencies(), groups, least, most))
 }
 
-/// What the lot decides, where no sheet of these totals is made because seats are tied. No lot is drawn.
+/// What the lot decides, if there is no sheet of these totals because seats are tied. None if the reason is another one. No lot
+/// is drawn. Fails if memory is refused.
 pub fn explain_tie(
     alloc: Global,
     totals: &Totals<'_>,

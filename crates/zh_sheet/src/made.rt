@@ -1,4 +1,4 @@
-//! Where sheets are made, from the totals of a count.
+//! Makes sheets from the totals of a count.
 ghost use Rattle.std.specs.Prelude.{IfErr};
 ghost use Rattle.zh_sheet.specs.Made.{IsMade};
 ghost use Rattle.zh_sheet.specs.Reasons.{HaveNoSheet, sheet_or_fault};
@@ -11,7 +11,7 @@ use std::alloc::Global;
 use zh_lower::find_or_reason;
 use zh_totals::Totals;
 
-/// The sheet of these totals, as `make` gives it, or why there is none with all that was found of it.
+/// The sheet of these totals, as `make` gives it, or why there is none, with everything that was found out about it.
 pub fn make_or_reason<'s>(alloc: Global, totals: &Totals<'s>) -> Result<Sheet<'s>, NoSheet>
     ensures made { IsMade totals.now (sheet_or_fault result) }
     ensures none { IfErr result (HaveNoSheet totals.now) }
@@ -27,10 +27,11 @@ pub fn make_or_reason<'s>(alloc: Global, totals: &Totals<'s>) -> Result<Sheet<'s
 
 /// The sheet of these totals, or why there is none: the first case that holds decides, in the order of `SheetRefusal`.
 ///
-/// No other seats follow from any divisors, of any scale, and the divisors are those of the first state of the search
-/// (docs/DEFINITIONS.md) that gives seats, or where none does those in the middle of what gives them: the same votes have
-/// one sheet. Where the seats of the lists are tied, no divisors give seats without a quotient on a half. `Memory` can come
-/// in place of every answer, and `Exhausted` where no state of the search gives seats.
+/// No divisors of any scale give other seats. The divisors are those of the first state of the search (docs/DEFINITIONS.md)
+/// that gives seats. If none does, they are the middle of those that give the seats, or else those of the decision, made easier
+/// to read if possible. So the same votes have only one sheet. If the seats of the lists are tied, no divisors give seats
+/// without a quotient on a half. `Exhausted` is returned only if no state of the search gives seats or is tied, and the
+/// decision gives no seats either. `Memory` can be returned in place of every answer.
 pub fn make<'s>(alloc: Global, totals: &Totals<'s>) -> Result<Sheet<'s>, SheetFault>
     ensures { IsMade totals.now result }
 {

@@ -1,4 +1,4 @@
-//! Why there is no sheet, with all that was found of it.
+//! Why there is no sheet, with everything that was found out about it.
 ghost use Rattle.std.specs.Prelude.{◌≡◌, ◌≤◌, Err, length};
 ghost use Rattle.zh_decided.specs.Decisions.{Decides};
 ghost use Rattle.zh_decided.specs.Rooms.{found};
@@ -15,34 +15,34 @@ use zh_decided::{Decision, MarkedRows};
 use zh_lower::{Decided, NoLower, Tie};
 use zh_totals::Totals;
 
-/// Why the search for the seats of the lists found none, in the numbers of the set-up.
+/// Why neither the search nor the decision found seats of the lists. Constituencies and groups are numbered as in the set-up.
 #[derive(Drop)]
 pub enum ExhaustedReason {
-    /// The seated groups with votes in these constituencies have fewer seats than the constituencies: no seats follow
-    /// from any divisors.
+    /// The seated groups with votes in these constituencies together have fewer seats than the constituencies, so no seats
+    /// follow from any divisors.
     Impossible(MarkedRows),
-    /// Two different distributions follow nearly from the same divisors; they differ first in this constituency and this
-    /// group.
+    /// Two different distributions nearly follow from the same divisors. They differ first in this constituency and this group.
     NearlyTied(u32, u32),
-    /// These are the only seats, but no divisors that leave the limits of a sheet some room give any.
+    /// These are the only seats, but no divisors in millionths give any, if those of groups are from 1.05 to 999,900 and those
+    /// of constituencies from 1.05 to 999,900,000,000.
     Beyond(ListSeats),
 }
 
-/// A tie between the seats of lists, with what was asked.
+/// A tie between the seats of lists, with the question for the lower apportionment.
 #[derive(Drop)]
 pub struct ListTie {
     pub(crate) asked: ListQuestion,
     pub(crate) tie: Tie,
 }
 
-/// Why no sheet is made, with all that was found of it.
+/// Why no sheet is made, with everything that was found out about it.
 #[derive(Drop)]
 pub enum NoSheet {
-    /// This came before the search for the seats of the lists.
+    /// This fault, which comes before the search for the seats of the lists or is `Memory`.
     Fault(SheetFault),
     /// The seats of the lists are tied, first in this constituency and this group.
     Tied(u32, u32, ListTie),
-    /// That search ended without divisors, for this reason.
+    /// The search for the seats of the lists found neither seats nor a tie, and the decision found none, for this reason.
     Exhausted(ExhaustedReason),
 }
 
@@ -81,7 +81,7 @@ impl From<NoSheet> for SheetFault {
     }
 }
 
-/// The reason by what was decided in vain, where the columns are these groups.
+/// The reason that a decision gives, if the columns are the groups that were asked for.
 fn reason_of(constituencies: u32, asked: ListQuestion, decided: Decided) -> ExhaustedReason
     requires rows { constituencies ≡ asked.matrix.rows }
     requires columns { length asked.seated.items ≡ asked.matrix.columns }
@@ -105,7 +105,7 @@ fn reason_of(constituencies: u32, asked: ListQuestion, decided: Decided) -> Exha
     }
 }
 
-/// Why there is no sheet where the lists that are asked for get no seats, in the numbers of the set-up.
+/// Why there is no sheet if the lists get no seats. Constituencies and groups are numbered as in the set-up.
 pub(crate) fn no_sheet(totals: &Totals<'_>, asked: ListQuestion, reason: NoLower) -> NoSheet
     requires asked { IsAsked totals.now asked }
     requires reason { HandsOver (question_in asked) (Err reason) }

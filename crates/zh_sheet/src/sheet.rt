@@ -1,4 +1,4 @@
-//! A sheet: the seats of the groups in the constituencies, with all that they follow from.
+//! A sheet: the seats of the groups in the constituencies, with everything that they follow from.
 ghost use Rattle.std.specs.Prelude.{◌≡◌, ◌-◌, ◌<◌, ◌≤◌, if◌then◌else◌, Some, None, IfSome, [], length, slice_get, slice_index};
 ghost use Rattle.std.specs.Option.{option_map_or};
 
@@ -11,10 +11,10 @@ use zh_lower::Lower;
 use zh_totals::Totals;
 use zh_upper::{Upper, voter_number};
 
-/// The distribution of the seats of an election, with all that it follows from (GPR sections 88 and 102 to 104): the
+/// The distribution of the seats of an election, with everything that it follows from (GPR sections 88 and 102 to 104): the
 /// votes, the seats of the constituencies and of the groups with their divisors, and the seats of each list.
 ///
-/// Each sheet meets the definitions: `setup` says so.
+/// Each sheet meets the definitions; `setup` ensures this.
 #[derive(Drop)]
 pub struct Sheet<'s> {
     pub(crate) totals: Totals<'s>,
@@ -46,7 +46,7 @@ impl<'s> Sheet<'s> {
     ghost use Rattle.zh_totals.specs.Totals.{votes_in};
     ghost use Rattle.zh_upper.specs.VoterNumbers.{voter_number};
 
-    /// The seats of the lists, which follow, with what was asked of them.
+    /// The sheet with these seats and divisors of the lists, which follow from what was asked.
     pub(crate) fn with_lists(totals: Totals<'s>, asked: ListQuestion, lower: Lower) -> Sheet<'s>
         requires asked { IsAsked totals asked }
         requires follow { DoFollow (question_in asked) lower }
@@ -70,7 +70,7 @@ impl<'s> Sheet<'s> {
         }
     }
 
-    /// The set-up of the election. The sheet meets the definitions.
+    /// The set-up of the election. This also ensures that the sheet meets the definitions.
     pub fn setup(&self) -> &'s Setup
         ensures setup { result.now ≡ self.now.totals.canton }
         ensures meets { IsDistribution self.now }
@@ -137,7 +137,7 @@ impl<'s> Sheet<'s> {
         self.taking[(group - 1) as usize]
     }
 
-    /// The voter sum of a group, where it takes part.
+    /// The voter sum of a group. None if it does not take part.
     pub fn voters(&self, group: u32) -> Option<u64>
         requires from_one { 1 ≤ group }
         requires there { group ≤ length self.now.totals.canton.groups }
@@ -159,7 +159,7 @@ impl<'s> Sheet<'s> {
         self.upper.seats(group)
     }
 
-    /// The place of a group among the seated groups, from 0.
+    /// The place of a group among the seated groups, from 0. None if it has no seats.
     fn column(&self, group: u32) -> Option<usize>
         ensures place { result ≡ column_of self.now group }
         ensures there { IfSome result (λ column. column < length self.now.lower.divisors.of_columns) }
@@ -168,7 +168,7 @@ impl<'s> Sheet<'s> {
         column_of(&self.seated, group)
     }
 
-    /// The divisor of a group in millionths, where it has seats.
+    /// The divisor of a group in millionths. None if it has no seats.
     pub fn group_divisor(&self, group: u32) -> Option<u64>
         ensures { result ≡ option_map_or (λ column. Some (slice_index self.now.lower.divisors.of_columns column))
             (column_of self.now group) None }
@@ -187,7 +187,7 @@ impl<'s> Sheet<'s> {
         self.setup().group_name(group)
     }
 
-    /// The voter number of a list, where its group takes part.
+    /// The voter number of a list. None if its group does not take part.
     pub fn list_voters(&self, constituency: u32, group: u32) -> Option<u64>
         requires from_one { 1 ≤ constituency }
         requires there { constituency ≤ length self.now.totals.canton.constituencies }
@@ -205,7 +205,7 @@ impl<'s> Sheet<'s> {
         }
     }
 
-    /// The seats of a list.
+    /// The seats of a list, 0 if its group has none.
     pub fn list_seats(&self, constituency: u32, group: u32) -> u32
         requires from_one { 1 ≤ constituency }
         requires there { constituency ≤ length self.now.totals.canton.constituencies }

@@ -1,9 +1,9 @@
--- What holds of each element of a list.
+-- What holds for each element of a list.
 use Rattle.std.proofs.Common.{ℕ, zero, suc, ◌+◌, ◌<◌, ◌≤◌, All, List, [], ◌∷◌, map, flat_map, arith}
 use Rattle.std.specs.List.{range_with_len}
 use Rattle.std.proofs.lemmas.List.Elements.{All-append, All-cons, All-nil}
 
--- so that it is seen one by one
+-- the same by recursion, so that it computes
 abbrev pub Each : {X : Type 0} → (X → Type 0) → List X → Type 0
 Each P [] = Unit {0}
 Each P (x ∷ xs) = P x × Each P xs
@@ -16,7 +16,7 @@ pub each_more : {X : Type 0} (P Q : X → Type 0) (xs : List X) → ((x : X) →
 each_more P Q [] more each = tt
 each_more P Q (x ∷ xs) more each = (more x each.0, each_more P Q xs more each.1)
 
--- of each that is made of a number
+-- what holds for each element that is made from a number
 pub all_numbers : {X : Type 0} (P : X → Type 0) (f : ℕ → X) (a n : ℕ) → ((k : ℕ) → a ≤ k → k < a + n → P (f k)) → All P (map f (range_with_len a n))
 all_numbers P f a zero each = All-nil P
 all_numbers P f a (suc n) each =

@@ -47,7 +47,7 @@ length-lists canton =
     let n : ℕ = length canton.groups in
     length-blocks (list_lines canton) n (wide canton) (range_with_len 1 m) ∙ ap (λ k. n * k) (length-range_with_len 1 m) ∙ mul_comm n m
 
--- how many there are
+-- the number of lines
 pub line_total : (canton : Canton) →
     length (sheet_lines canton) ≡ 6 + length canton.constituencies + length canton.groups + length canton.constituencies * length canton.groups
 line_total canton =
@@ -71,7 +71,7 @@ pub few_lines : (canton : Canton) → IsCanton canton → length (sheet_lines ca
 few_lines canton is =
     omega (arith, line_total canton, is.constituencies.1, is.groups.1, few_cells (length canton.constituencies) (length canton.groups) is.constituencies.1 is.groups.1)
 
--- each at its place
+-- the line at each place
 pub row_at : (canton : Canton) (k : ℕ) → k < length canton.constituencies → get_or (lines_below canton) k end_line ≡ constituency_line canton (k + 1)
 row_at canton k lt =
     let m : ℕ = length canton.constituencies in
@@ -134,7 +134,7 @@ end_at canton k p past further is all =
     ∙ (get_or-append_right (lists canton) (end_line ∷ []) (length canton.constituencies * length canton.groups) p end_line (length-lists canton) all
     ∙ only_end (p - length canton.constituencies * length canton.groups)))
 
--- at most so many bytes stand at a part
+-- the most bytes that the text of a part has
 abbrev pub most : SheetPart → ℕ
 most (Fixed label) = length (label_text label)
 most Kind = 11
@@ -151,7 +151,7 @@ abbrev pub most_of : List SheetPart → ℕ
 most_of [] = 0
 most_of (part ∷ parts) = most part + 1 + most_of parts
 
--- some parts, and a name only as the last of them
+-- a line has parts, and only the last of them can be a name
 abbrev pub is_name_part : SheetPart → Bool
 is_name_part (ConstituencyName d) = true
 is_name_part (GroupName g) = true
@@ -162,7 +162,7 @@ is_laid_out [] = false
 is_laid_out (part ∷ []) = true
 is_laid_out (part ∷ (next ∷ parts)) = not (is_name_part part) && is_laid_out (next ∷ parts)
 
--- a line of this set-up, which is not long
+-- a line of this set-up: its parts exist, and it is not too long
 pub record IsLineOf (canton : Canton) (line : SheetLine) : Type 0 where
   pub parts : Each (IsPartOf canton) line.parts
   pub short : most_of line.parts ≤ 256
@@ -210,7 +210,7 @@ list_fine canton is d g low high from_one there =
       laid_out = λ there. refl;
     }
 
--- so is each
+-- each line is one of this set-up
 pub all_lines : (canton : Canton) → IsCanton canton → All (IsLineOf canton) (sheet_lines canton)
 all_lines canton is =
     let P = IsLineOf canton in

@@ -1,4 +1,4 @@
--- How long the text of a sheet is at most: 1,094 lines of 256 bytes.
+-- An upper bound of the length of a sheet's text: 1,094 lines of 256 bytes.
 use Rattle.std.proofs.Common.{◌≡◌, ℕ, zero, suc, ◌+◌, ◌-◌, ◌*◌, ◌^◌, ◌<◌, ◌≤◌, ◌==◌, Bool, cond, true, false, IsTrue, Option, Some, None}
 use Rattle.std.proofs.Common.{List, [], ◌∷◌, ◌++◌, length, get_or, map, All, decimal, codes, refl, ap, sym, ◌∙◌, inl, inr, arith, length-append}
 use Rattle.std.specs.Prelude.{slice_get, sum}
@@ -38,17 +38,17 @@ fraction : (num den : ℕ) → num < 2 ^ 64 → den < 2 ^ 64 → length (decimal
 fraction num den one other =
     omega (arith, digits num one, digits den other, length-append (decimal num) (codes "/" ++ decimal den), length-append (codes "/") (decimal den))
 
--- one text or the other
+-- the length of a conditional text
 choice : (b : Bool) (one other : List ℕ) (most : ℕ) → length one ≤ most → length other ≤ most → length (cond b one other) ≤ most
 choice true one other most is or = is
 choice false one other most is or = or
 
--- the text of what is found, or a dash
+-- the length of the text of an optional value, or of a dash
 found : (text : ℕ → List ℕ) (most : ℕ) (o : Option ℕ) → 1 ≤ most → ((k : ℕ) → length (text k) ≤ most) → length (option_map_or text o (codes "-")) ≤ most
 found text most None some each = some
 found text most (Some k) some each = each k
 
--- elements that are all small, and one past the end
+-- all elements are small, and so is the default past the end
 pub each_at_most : (xs : List ℕ) (most k : ℕ) → All (λ v. v ≤ most) xs → get_or xs k 0 ≤ most
 each_at_most xs most k all = elim (cases_lt k (length xs)) [
   | inl within ↦ all k 0 within
@@ -61,19 +61,19 @@ within_sum xs k = elim (cases_lt k (length xs)) [
   | inr past ↦ let none = get_or_past xs k 0 past in omega (arith, none)
 ]
 
--- persons, as one of all and as one that is looked up
+-- persons, as a list and as a number that is looked up in it
 mapped_at_most : {X : Type 0} (f : X → ℕ) (most : ℕ) (xs : List X) (k : ℕ) → All (λ x. f x ≤ most) xs → get_or (map f xs) k 0 ≤ most
 mapped_at_most f most [] k all = omega arith
 mapped_at_most f most (x ∷ xs) zero all = all 0 x (omega arith)
 mapped_at_most f most (x ∷ xs) (suc k) all = mapped_at_most f most xs k (λ i d within. all (suc i) d (omega arith))
 
--- a name that is looked up
+-- the length of a name that is looked up
 name_at : {X : Type 0} (name : X → List ℕ) (xs : List X) (k : ℕ) → All (λ n. IsTrue (is_name n)) (map name xs) → length (option_map_or name (slice_get xs k) []) ≤ 40
 name_at name [] k rule = omega arith
 name_at name (x ∷ xs) zero rule = is_name-short (name x) (rule 0 (name x) (omega arith))
 name_at name (x ∷ xs) (suc k) rule = name_at name xs k (λ i d within. rule (suc i) d (omega arith))
 
--- a number of a group that takes part
+-- the number of a group that takes part
 participant_at_most : (numbers : List ℕ) (taking : List Bool) (most k : ℕ) → ((i : ℕ) → get_or numbers i 0 ≤ most) → get_or (of_participants numbers taking) k 0 ≤ most
 participant_at_most [] taking most k each = each 0
 participant_at_most (n ∷ numbers) [] most k each = omega arith
@@ -81,7 +81,7 @@ participant_at_most (n ∷ numbers) (true ∷ taking) most zero each = each 0
 participant_at_most (n ∷ numbers) (true ∷ taking) most (suc k) each = participant_at_most numbers taking most k (λ i. each (suc i))
 participant_at_most (n ∷ numbers) (false ∷ taking) most k each = participant_at_most numbers taking most k (λ i. each (suc i))
 
--- a group that takes part has at most the seats of all of these, and another one has none
+-- a group that takes part has at most the sum of their seats; another group has none
 seats_within : (numbers : List ℕ) (taking : List Bool) (k : ℕ) → length taking ≡ length numbers
     → ((place : ℕ) → slice_get taking place ≡ Some false → get_or numbers place 0 ≡ 0)
     → get_or numbers k 0 ≤ sum (of_participants numbers taking)
@@ -93,7 +93,7 @@ seats_within (n ∷ numbers) (true ∷ taking) (suc k) same others =
 seats_within (n ∷ numbers) (false ∷ taking) zero same others = let none : n ≡ 0 = others 0 refl in omega arith
 seats_within (n ∷ numbers) (false ∷ taking) (suc k) same others = seats_within numbers taking k (omega arith) (λ place. others (suc place))
 
--- parts of at most so many bytes, and lines of them
+-- the length of parts, and of a line made of them
 parts_within : (text : SheetPart → List ℕ) (parts : List SheetPart) → Each (λ part. length (text part) ≤ most part) parts → length (joined_parts text parts) ≤ most_of parts
 parts_within text [] each = omega arith
 parts_within text (part ∷ parts) each =
@@ -110,7 +110,7 @@ lines_within text (line ∷ lines) each =
     )
 
 module _ (x : Distribution) (is : IsDistribution x) where
-  -- the numbers of a sheet
+  -- the numbers of a sheet are small
   pub seats_small : (k : ℕ) → get_or x.seats.seats k 0 ≤ 400
   seats_small k = omega (arith, within_sum x.seats.seats k, is.seats.in_proportion.add_up, is.totals.canton.house.1)
 
@@ -171,7 +171,7 @@ module _ (x : Distribution) (is : IsDistribution x) where
             omega (arith, here, all, one, seats_small (d - 1))
       ] refl
 
-  -- what stands at a part
+  -- the length of the text of a part
   module _ (head : Head) (desk : head.desk ≤ 8) (accepted : head.accepted < 2 ^ 64) where
     part_within : (part : SheetPart) → IsPartOf x.totals.canton part → length (part_text x head part) ≤ most part
     part_within (Fixed label) of = omega arith

@@ -7,7 +7,7 @@ use Rattle.std.proofs.lemmas.List.{drop_all}
 use Rattle.zh_sheet_text.specs.Layout.{mark_before}
 use Rattle.zh_sheet_text.specs.declared.line.SheetPart.{SheetPart}
 
--- a part and the mark after it, of what is still to be put
+-- a part of the remaining text and the byte after it were appended
 pub marked_put : (page next new here whole rest all : List ℕ) (sign : ℕ) → page ++ whole ≡ all → whole ≡ here ++ sign ∷ rest → next ≡ page ++ here →
     new ≡ next ++ sign ∷ [] → new ++ rest ≡ all
 marked_put page next new here whole rest all sign before parts put marked =
@@ -15,7 +15,7 @@ marked_put page next new here whole rest all sign before parts put marked =
     ∙ (append_assoc (page ++ here) (sign ∷ []) rest
     ∙ (append_assoc page here (sign ∷ rest) ∙ (ap (λ t. page ++ t) (sym parts) ∙ before)))
 
--- the last is the one after which none is left
+-- a part is the last one if no part remains after it
 some_left : (parts : List SheetPart) (n : ℕ) → n < length parts → mark_before (drop n parts) ≡ 32
 some_left [] n lt = absurd (omega arith)
 some_left (part ∷ parts) zero lt = refl

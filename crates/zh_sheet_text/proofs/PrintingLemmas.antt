@@ -9,7 +9,7 @@ use Rattle.std.proofs.lemmas.List.{take-append-le, take_all, take_more}
 use Rattle.std.proofs.lemmas.List.Concat.{flat_map-append}
 use Rattle.zh_sheet_text.specs.Printing.{Prints, WritesFront}
 
--- what is put on the page
+-- text was put into the buffer
 pub Prints-put : (held : Option (List ℕ)) (page next text : List ℕ) → next ≡ page ++ text → Prints held page held next text
 Prints-put held page next text put = record { sent = []; appended = Appends-nil held; whole = sym put }
 
@@ -24,7 +24,7 @@ Prints-append a b c p q r x y first second = record {
       ∙ (append_assoc first.sent q y ∙ (ap (λ t. first.sent ++ t) second.whole ∙ sym (append_assoc first.sent second.sent r))));
 }
 
--- what is put on the page and then sent
+-- text was put into the buffer and then written
 pub Prints-sent : (a b : Option (List ℕ)) (page next left text : List ℕ) → next ≡ page ++ text → Prints a next b left [] → Prints a page b left text
 Prints-sent a b page next left text put sent = record {
   sent = sent.sent;
@@ -32,13 +32,13 @@ Prints-sent a b page next left text put sent = record {
   whole = sym put ∙ (sym (append-nil next) ∙ sent.whole);
 }
 
--- a front of a text is one of any longer text
+-- a proper prefix of a text is one of any longer text
 pub WritesFront-append : (a b : Option (List ℕ)) (x y : List ℕ) → WritesFront a b x → WritesFront a b (x ++ y)
 WritesFront-append a b x y written =
     let within : written.0 ≤ length x = omega (arith, written.1) in
     (written.0, omega (arith, written.1, length-append x y), subst (Appends a b) (sym (take-append-le written.0 x y within)) written.2)
 
--- the writer stops after some text was printed
+-- the writer fails after some text was printed
 pub WritesFront-after : (a b c : Option (List ℕ)) (p q x : List ℕ) → Prints a p b q x → WritesFront b c q → WritesFront a c (p ++ x)
 WritesFront-after a b c p q x printed written =
     let n : ℕ = length printed.sent + written.0 in
@@ -47,13 +47,13 @@ WritesFront-after a b c p q x printed written =
     = ap (take n) printed.whole ∙ take-append-add printed.sent q written.0 in
     (n, less, subst (Appends a c) (sym front) (Appends-trans a b c printed.sent (take written.0 q) printed.appended written.2))
 
--- where all is written, it is the text
+-- if the buffer is empty before and after, the writer got the text
 pub all_written : (a b : Option (List ℕ)) (p q x : List ℕ) → p ≡ [] → q ≡ [] → Prints a p b q x → Appends a b x
 all_written a b p q x none left printed =
     let whole : x ≡ printed.sent = ap (λ t. t ++ x) (sym none) ∙ (printed.whole ∙ (ap (λ t. printed.sent ++ t) left ∙ append-nil printed.sent)) in
     subst (Appends a b) (sym whole) printed.appended
 
--- the text of one line more
+-- one more line was printed
 pub lines_printed : {X : Type 0} (a b c : Option (List ℕ)) (p q r : List ℕ) (text : X → List ℕ) (xs : List X) (k : ℕ) (d : X) → k < length xs →
     Prints a p b q (flat_map text (take k xs)) → Prints b q c r (text (get_or xs k d)) → Prints a p c r (flat_map text (take (k + 1) xs))
 lines_printed a b c p q r text xs k d lt before next =
@@ -63,7 +63,7 @@ lines_printed a b c p q r text xs k d lt before next =
     ∙ (flat_map-append text (take k xs) (get_or xs k d ∷ []) ∙ ap (λ t. flat_map text (take k xs) ++ t) (append-nil line)) in
     subst (Prints a p c r) (sym more) (Prints-append a b c p q r (flat_map text (take k xs)) line before next)
 
--- the writer stops at a line
+-- the writer fails at a line
 pub lines_stopped : {X : Type 0} (a b c : Option (List ℕ)) (p q : List ℕ) (text : X → List ℕ) (xs : List X) (k : ℕ) (d : X) → k < length xs →
     Prints a p b q (flat_map text (take k xs)) → WritesFront b c (q ++ text (get_or xs k d)) → WritesFront a c (p ++ flat_map text xs)
 lines_stopped a b c p q text xs k d lt before stopped =
@@ -80,12 +80,12 @@ pub lines_all : {X : Type 0} (a b : Option (List ℕ)) (p q : List ℕ) (text : 
     Prints a p b q (flat_map text (take k xs)) → Prints a p b q (flat_map text xs)
 lines_all a b p q text xs k past printed = subst (λ ls. Prints a p b q (flat_map text ls)) (take_all k xs past) printed
 
--- what holds holds at an error
+-- what holds, holds at an error
 pub at_error : {T E : Type 0} {P : Type 0} (result : Result T E) → P → OnErr result P
 at_error (Ok value) holds = tt
 at_error (Err error) holds = holds
 
--- what waits on the page is sent
+-- all that was in the buffer is written
 pub sent_whole : {T E : Type 0} (result : Result T E) (a b c : Option (List ℕ)) (page left text : List ℕ) → Prints a [] b page text →
     OnOk result (Prints b page c left []) → OnOk result (left ≡ []) → OnOk result (Appends a c text)
 sent_whole (Ok value) a b c page left text printed sent empty =

@@ -1,4 +1,4 @@
--- The widths of the columns, one number more each time.
+-- The widths of the columns, with one more number each time.
 use Rattle.std.proofs.Common.{◌≡◌, ◌+◌, ℕ, ap, ◌∙◌, sum_by}
 use Rattle.std.specs.List.{fold, range_with_len}
 use Rattle.std.proofs.lemmas.List.Sums.{fold_push, sum_by_push}

@@ -28,17 +28,17 @@ label_text labels.Voters = codes "voters"
 label_text labels.List = codes "list"
 label_text labels.End = codes "end"
 
--- what stands before the parts that are left: a space, 32, or where none is left the end of the line, 10
+-- the byte before the remaining parts: a space, 32, or the line feed, 10, if no part remains
 abbrev pub mark_before : List SheetPart → ℕ
 mark_before [] = 10
 mark_before (part ∷ parts) = 32
 
--- a line: whether a text has it, and its parts
+-- a line: whether it is written, and its parts
 pub record SheetLine : Type 0 where
   pub is_there : Bool
   pub parts : List SheetPart
 
--- the first line; the house; a divisor of seats; the canton-wide quorum in per mille, where there is one
+-- the first line; the house; a divisor of seats; the canton-wide quorum in per mille, if there is one
 abbrev pub head_line : SheetLine
 head_line = record { is_there = true; parts = Desk ∷ Fixed labels.Sheet ∷ Kind ∷ Accepted ∷ [] }
 
@@ -81,7 +81,7 @@ list_line canton d g = record {
 abbrev pub end_line : SheetLine
 end_line = record { is_there = true; parts = Fixed labels.End ∷ [] }
 
--- the constituencies, the groups, the lists, constituency by constituency, and the end
+-- the constituencies, the groups, the lists by constituency and group, and the end
 abbrev pub lines_below : Canton → List SheetLine
 lines_below canton =
     map (constituency_line canton) (range_with_len 1 (length canton.constituencies))
@@ -95,12 +95,12 @@ sheet_lines canton =
     head_line ∷ house_line canton ∷ key_line labels.Seats SeatsKey ∷ key_line labels.Upper UpperKey
     ∷ quorum_line canton.canton_quorum ∷ lines_below canton
 
--- a number from 1 on
+-- a number from 1 to `most`
 pub record IsUpTo (most number : ℕ) : Type 0 where
   pub from_one : 1 ≤ number
   pub there : number ≤ most
 
--- a part speaks of constituencies and groups that there are; its number has 32 bits
+-- a part is about existing constituencies and groups, and its number is below 2 ^ 32
 abbrev pub IsPartOf : Canton → SheetPart → Type 0
 IsPartOf canton (Number n) = n < 2 ^ 32
 IsPartOf canton (ConstituencySeats d) = IsUpTo (length canton.constituencies) d

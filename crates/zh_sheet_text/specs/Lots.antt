@@ -1,4 +1,4 @@
--- What the lot decides, as text; 10 ends a line, 32 is a space. Each line begins with the end of the one before.
+-- What the lot decides, as text; 10 is LF, 32 is a space. Each line begins with the LF of the one before.
 use Rattle.std.specs.Prelude.{ℕ, ◌-◌, ◌&&◌, ◌||◌, Bool, false, nat_le, nat_lt, if◌then◌else◌, List, [], ◌∷◌, ◌++◌, codes, decimal}
 use Rattle.std.specs.Prelude.{length, slice_index, slice_index_or}
 use Rattle.zh_districts.specs.Canton.{Canton}
@@ -13,23 +13,23 @@ use Rattle.zh_sheet_text.specs.declared.lots.ListRange.{ListRange}
 use Rattle.zh_sheet_text.specs.declared.lots.Listed.{Listed}
 use Rattle.zh_sheet_text.specs.declared.lots.Listed.TheVariants.{Differing, Same}
 
--- the name behind a number, if the set-up has such a constituency or group
+-- the name of this constituency or group, or an empty text if the set-up does not have it
 abbrev pub constituency_behind : Canton → ℕ → List ℕ
 constituency_behind canton d = if nat_le 1 d && nat_le d (length canton.constituencies) then name_of_constituency canton d else []
 
 abbrev pub group_behind : Canton → ℕ → List ℕ
 group_behind canton g = if nat_le 1 g && nat_le g (length canton.groups) then name_of_group canton g else []
 
--- those of a list, behind its numbers
+-- the names of a list, which follow its numbers
 abbrev pub list_behind : Canton → ListRange → List ℕ
 list_behind canton x = 32 ∷ constituency_behind canton x.constituency ++ codes ", " ++ group_behind canton x.group
 
--- a constituency that is marked
+-- the line of a constituency that is marked
 abbrev pub tied_constituency_line : Canton → List Bool → ℕ → List ℕ
 tied_constituency_line canton marks d =
     if slice_index_or marks (d - 1) false then 10 ∷ decimal d ++ 32 ∷ constituency_behind canton d else []
 
--- a group whose seats differ: its number, the fewest and the most, and its name
+-- the line of a group whose seats differ: its number, the fewest and the most seats, and its name
 abbrev pub range_line : Canton → ℕ → ℕ → ℕ → List ℕ
 range_line canton g least most =
     if nat_lt least most then 10 ∷ decimal g ++ 32 ∷ decimal least ++ 32 ∷ decimal most ++ 32 ∷ group_behind canton g else []
@@ -37,8 +37,8 @@ range_line canton g least most =
 abbrev pub tied_group_line : Canton → SeatRanges → ℕ → List ℕ
 tied_group_line canton x g = range_line canton g (slice_index x.least.items (g - 1)) (slice_index x.most.items (g - 1))
 
--- a list whose seats differ: its constituency, its group, the fewest and the most; or one that has the same in each, if it has
--- some: its constituency, its group, and the seats
+-- the line of a list. If its seats differ: constituency, group, fewest and most seats. If it has the same seats in each distribution, and
+-- has some: constituency, group, seats. Its names follow.
 abbrev pub tied_list_line : Canton → Listed → ListRange → List ℕ
 tied_list_line canton Differing x =
     if nat_lt x.least x.most
@@ -49,7 +49,7 @@ tied_list_line canton Same x =
     then []
     else 10 ∷ decimal x.constituency ++ 32 ∷ decimal x.group ++ 32 ∷ decimal x.least ++ list_behind canton x
 
--- the list of the group in a place, counted from 1, in constituency d
+-- the list of constituency d and of the group at a place in `groups`, counted from 1
 abbrev pub range_of : RangesOfLists → ℕ → ℕ → ListRange
 range_of x d place = record {
   constituency = d;

@@ -1,6 +1,6 @@
 -- Quotients.
 use Rattle.std.specs.Prelude.{ℕ, ◌*◌, ◌/◌, ◌^◌}
 
--- votes over the product of two divisors in millionths, cut off to whole millionths
+-- the quotient of votes and two divisors, in millionths, rounded down; the divisors are in millionths too
 abbrev pub quotient : ℕ → ℕ → ℕ → ℕ
 quotient votes of_constituency of_group = votes * 10 ^ 18 / (of_constituency * of_group)

@@ -1,4 +1,4 @@
--- What is reported where there are no seats; 10 ends a line.
+-- The report of why there are no seats; 10 is LF.
 use Rattle.std.specs.Prelude.{ℕ, List, [], ◌∷◌, ◌++◌, codes}
 use Rattle.zh_districts.specs.Canton.{Canton}
 use Rattle.zh_sheet.specs.declared.fault.SheetRefusal.TheVariants as sheets
@@ -8,7 +8,7 @@ use Rattle.zh_sheet_text.specs.Refusals.{reason_text, refusal_line}
 use Rattle.zh_sheet_text.specs.declared.mark.NoSeats.{NoSeats}
 use Rattle.zh_sheet_text.specs.declared.mark.NoSeats.TheVariants.{Refused, Exhausted, Tied, Wrong}
 
--- the line of the refusal; then the reason of an exhausted search, or what the lot decides
+-- the line of the refusal; after it the reason of an exhausted search, or what the lot decides
 abbrev pub refusal_text : Canton → NoSeats → List ℕ
 refusal_text canton (Refused refusal) = refusal_line refusal
 refusal_text canton (Exhausted reason) = refusal_line (refusals.Sheet sheets.Exhausted) ++ reason_text canton reason ++ 10 ∷ []

@@ -12,7 +12,7 @@ use Rattle.zh_sheet_text.specs.declared.mark.Mark.{Mark}
 use Rattle.zh_sheet_text.specs.declared.mark.Source.{Source}
 use Rattle.zh_sheet_text.specs.declared.mark.Source.TheVariants.{Count, Sheet}
 
--- names on the left and above, and the seats of each list, of constituencies and of groups; a dash for a list that does not stand
+-- names to the left and above; the seats of each list, constituency and group; a dash for a list that does not stand
 abbrev pub seat_cell : Distribution → TablePlace → TablePlace → List ℕ
 seat_cell x Head Head = []
 seat_cell x Head (At g) = name_of_group x.totals.canton g
@@ -32,12 +32,12 @@ seat_grid x = record {
       seat_cell x (table_place (length x.totals.canton.constituencies) line) (table_place (length x.totals.canton.groups) column);
 }
 
--- whose word a mark is, after each part of it
+-- what is added after each statement of a published sheet
 abbrev pub whose : Source → List ℕ
 whose Count = []
 whose Sheet = codes " (as the sheet says)"
 
--- how the seats are marked
+-- the title: how the seats are marked
 abbrev pub title : Mark → List ℕ
 title mark = finality mark ++ whose mark.source ++ codes ", " ++ decimal mark.accepted ++ codes " commands" ++ whose mark.source ++ 10 ∷ []
 

@@ -27,8 +27,8 @@ constituency_name canton d = option_map_or (λ c. c.name) (slice_get canton.cons
 abbrev pub group_name : Canton → ℕ → List ℕ
 group_name canton g = option_map_or (λ c. c.name) (slice_get canton.groups (g - 1)) []
 
--- what stands at a part: the divisors of seats are not reduced; voter numbers stand only where the group takes part, and the
--- divisor of a group only where it has seats
+-- the text of a part: divisors of seats are not reduced; a dash replaces the voter numbers of a group that does not take part, and the
+-- divisor of a group without seats
 abbrev pub part_text : Distribution → Head → SheetPart → List ℕ
 part_text x head (Fixed label) = label_text label
 part_text x head (Number n) = decimal n
@@ -52,16 +52,16 @@ part_text x head (ListVoters d g) =
     if takes_part x g then decimal (voter_number (votes_in x.totals d g) (slice_index x.seats.seats (d - 1))) else codes "-"
 part_text x head (ListSeats d g) = decimal (list_seats x d g)
 
--- the parts of a line, each with what stands after it
+-- the parts of a line, each with the byte after it
 abbrev pub joined_parts : (SheetPart → List ℕ) → List SheetPart → List ℕ
 joined_parts text [] = []
 joined_parts text (part ∷ parts) = text part ++ mark_before parts ∷ joined_parts text parts
 
--- a line, where it is there
+-- a line, if it is written
 abbrev pub line_text : (SheetPart → List ℕ) → SheetLine → List ℕ
 line_text text line = if line.is_there then joined_parts text line.parts else []
 
--- the whole text, for a desk, final or provisional, after so many accepted commands
+-- the whole text, for a desk, final or provisional, after this number of accepted commands
 abbrev pub sheet_text : Distribution → ℕ → Bool → ℕ → List ℕ
 sheet_text x desk is_final accepted =
     flat_map (line_text (part_text x (record { desk = desk; is_final = is_final; accepted = accepted }))) (sheet_lines x.totals.canton)

@@ -1,5 +1,5 @@
--- A table for people: a heading, a line for each thing and a column for each field. It has at most 80 columns of characters; where
--- that does not do, each line stands above its fields, of which each has a line.
+-- A table for people: a heading, a line for each thing and a column for each field. A line of it has at most 80 characters. If that is not
+-- enough, the fields of each line are below it, a line each.
 use Rattle.std.specs.Prelude.{ℕ, ◌+◌, ◌-◌, ◌≤◌, ◌==◌, nat_le, nat_lt, ◌||◌, Bool, max, List, [], ◌∷◌, ◌++◌, fold, replicate}
 use Rattle.std.specs.Prelude.{if◌then◌else◌, codes, count_by, sum_by}
 use Rattle.std.specs.List.{range_with_len}
@@ -7,27 +7,27 @@ use Rattle.zh_text.specs.Each.{each_to}
 use Rattle.zh_sheet_text.specs.declared.table.TablePlace.{TablePlace}
 use Rattle.zh_sheet_text.specs.declared.table.TablePlace.TheVariants.{Head, At, Total}
 
--- how many characters a text in UTF-8 has: each byte counts but for those that go on with a character, 128 to 191
+-- the number of characters of a text in UTF-8: each byte counts, except continuation bytes (128 to 191)
 abbrev pub begins_character : ℕ → Bool
 begins_character byte = nat_lt byte 128 || nat_le 192 byte
 
 abbrev pub characters : List ℕ → ℕ
 characters text = count_by begins_character text
 
--- a text on the left or on the right of so many characters, if it has fewer; 32 is a space
+-- a text, aligned left or right in this width; 32 is a space
 abbrev pub on_left : ℕ → List ℕ → List ℕ
 on_left width text = text ++ replicate (width - characters text) 32
 
 abbrev pub on_right : ℕ → List ℕ → List ℕ
 on_right width text = replicate (width - characters text) 32 ++ text
 
--- what stands in a line and a column of a table; line 0 is the heading, and column 0 says what a line is of
+-- the cells of a table; line 0 is the heading, and column 0 says what each line is about
 pub record Grid : Type 0 where
   pub lines : ℕ
   pub columns : ℕ
   pub cell : ℕ → ℕ → List ℕ
 
--- of the lines or the columns of so many things: before the first of them, at one, or of all
+-- the place of a line or a column among those of `last` things: the heading, that of one, or that of all
 abbrev pub table_place : ℕ → ℕ → TablePlace
 table_place last number = if number == 0 then Head else if nat_le number last then At number else Total
 
@@ -36,21 +36,21 @@ IsTablePlace last Head = Unit {0}
 IsTablePlace last (At number) = (1 ≤ number) × (number ≤ last)
 IsTablePlace last Total = Unit {0}
 
--- the characters of the longest text in a column, or three; first without the heading
+-- the number of characters in the longest cell of a column, at least three; first without the heading
 abbrev pub widest_below : Grid → ℕ → ℕ
 widest_below grid column = fold (λ most line. max most (characters (grid.cell line column))) 3 (range_with_len 1 grid.lines)
 
 abbrev pub widest : Grid → ℕ → ℕ
 widest grid column = max (widest_below grid column) (characters (grid.cell 0 column))
 
--- before each column but the first are two spaces
+-- two spaces come before each column except the first
 abbrev pub column_width : Grid → ℕ → ℕ
 column_width grid column = 2 + widest grid column
 
 abbrev pub table_width : Grid → ℕ
 table_width grid = widest grid 0 + sum_by (column_width grid) (range_with_len 1 grid.columns)
 
--- a line of the wide table; 10 ends a line
+-- a line of the wide table; 10 is LF
 abbrev pub wide_cells : Grid → ℕ → List ℕ
 wide_cells grid line = each_to grid.columns (λ column. on_right (column_width grid column) (grid.cell line column))
 
@@ -60,11 +60,11 @@ wide_line grid line = on_left (widest grid 0) (grid.cell line 0) ++ wide_cells g
 abbrev pub wide_table : Grid → List ℕ
 wide_table grid = wide_line grid 0 ++ each_to grid.lines (wide_line grid)
 
--- the one column of the tall table: the longest text of all columns, without the heading, or three characters
+-- the only column of the tall table is as wide as the longest cell of all columns, without the heading, at least three, and two spaces
 abbrev pub tall_width : Grid → ℕ
 tall_width grid = 2 + fold (λ most column. max most (widest_below grid column)) 3 (range_with_len 1 grid.columns)
 
--- a line of the tall table, with what its last column says, above a line for each of the other columns
+-- a line of the tall table with its last column, and below it a line for each of the other columns
 abbrev pub field_line : Grid → ℕ → ℕ → List ℕ
 field_line grid line column =
     codes "  " ++ on_left 40 (grid.cell 0 column) ++ on_right (tall_width grid) (grid.cell line column) ++ 10 ∷ []

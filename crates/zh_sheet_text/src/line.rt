@@ -1,4 +1,4 @@
-//! A line of a sheet: its parts, and how they are spelled.
+//! A line of a sheet: its parts and their spelling.
 ghost use Rattle.std.specs.Prelude.{◌≡◌, ◌≤◌, length, ◌∷◌, ◌++◌, [], if◌then◌else◌, ◌+◌, All, codes};
 ghost use Rattle.zh_sheet_text.specs.Layout.{SheetLine, label_text, IsPartOf};
 ghost use Rattle.zh_sheet_text.specs.SheetText.{part_text, joined_parts};
@@ -11,10 +11,11 @@ use zh_text::{
     push_numeral_or_dash,
 };
 
-/// The most parts that a line has.
+/// The most parts that a line can have.
 pub(crate) const MOST_PARTS: usize = 11;
 
-/// A line of a sheet, as its parts. One of a list that does not stand is not there.
+/// The parts of a line of a sheet. The line of a list that does not stand, or of a canton-wide quorum that the set-up
+/// does not have, is not written.
 #[derive(Drop)]
 pub struct LineParts {
     is_there: bool,
@@ -35,7 +36,7 @@ impl Model for LineParts {
 }
 
 impl LineParts {
-    /// The line of these parts.
+    /// The line that consists of these parts.
     pub(crate) fn of(is_there: bool, parts: &[SheetPart]) -> LineParts
         requires { length parts.now ≤ MOST_PARTS }
         ensures { result ≡ record { is_there = is_there; parts = parts.now } }
@@ -49,14 +50,14 @@ impl LineParts {
         }
     }
 
-    /// Whether a text has the line.
+    /// Whether the line is written.
     pub fn is_there(&self) -> bool
         ensures { result ≡ self.now.is_there }
     {
         self.is_there
     }
 
-    /// Its parts, in order.
+    /// The parts of the line, in order. At most 11.
     pub fn parts(&self) -> &[SheetPart]
         ensures parts { result.now ≡ self.now.parts }
         ensures few { length result.now ≤ MOST_PARTS }
@@ -65,7 +66,7 @@ impl LineParts {
     }
 }
 
-/// A word that says what follows it, the same in every sheet.
+/// A word that introduces what follows it. It is the same in every sheet.
 #[derive(Clone, Copy)]
 pub enum Label {
     Sheet,
@@ -85,7 +86,7 @@ pub enum Label {
     End,
 }
 
-/// A part of a line: what the set-up says, or the name of what only a sheet can say.
+/// A part of a line: a label, a number of the set-up, or the name of a value that only a sheet has.
 #[derive(Clone, Copy)]
 pub enum SheetPart {
     Fixed(Label),
@@ -100,13 +101,13 @@ pub enum SheetPart {
     ConstituencyVotes(u32),
     ConstituencyDivisor(u32),
     ConstituencyName(u32),
-    /// Whether a group takes part, its voter sum, its seats, its divisor and its name.
+    /// Whether a group takes part; its voter sum, its seats, its divisor and its name.
     TakesPart(u32),
     GroupVoters(u32),
     GroupSeats(u32),
     GroupDivisor(u32),
     GroupName(u32),
-    /// The votes of a list, of a constituency and a group, its voter number and its seats.
+    /// The votes, the voter number and the seats of a list, given its constituency and its group.
     ListVotes(u32, u32),
     ListVoters(u32, u32),
     ListSeats(u32, u32),
@@ -136,7 +137,7 @@ pub fn label_text(label: Label) -> &'static [u8]
     }
 }
 
-/// What stands after a part: a space, or the end of the line after the last.
+/// The byte after a part: a line feed after the last part of a line, otherwise a space.
 pub fn mark_after(is_last: bool) -> &'static [u8]
     ensures { result.now ≡ (if is_last then 10 else 32) ∷ [] }
 {
@@ -151,7 +152,7 @@ pub struct Head {
     pub accepted: u64,
 }
 
-/// Whether a sheet is final, in a word.
+/// `final` or `provisional`.
 pub(crate) fn finality(is_final: bool) -> &'static str
     ensures word { result.now ≡ (if is_final then codes "final" else codes "provisional") }
     ensures short { length result.now ≤ 11 }
@@ -159,7 +160,7 @@ pub(crate) fn finality(is_final: bool) -> &'static str
     if is_final { "final" } else { "provisional" }
 }
 
-/// A yes or no, in a word.
+/// `yes` or `no`.
 pub fn yes_or_no(yes: &bool) -> &str
     ensures word { result.now ≡ (if yes.now then codes "yes" else codes "no") }
     ensures short { length result.now ≤ 3 }
@@ -167,7 +168,7 @@ pub fn yes_or_no(yes: &bool) -> &str
     if *yes { "yes" } else { "no" }
 }
 
-/// Writes what stands at a part.
+/// Appends the text of a part.
 fn push_part(text: &mut WriteBuffer, sheet: &Sheet<'_>, head: Head, part: SheetPart)
     requires there { IsPartOf sheet.now.totals.canton part }
     requires room { length text.old.items + PART ≤ ROOM }
@@ -200,7 +201,7 @@ fn push_part(text: &mut WriteBuffer, sheet: &Sheet<'_>, head: Head, part: SheetP
     }
 }
 
-/// Writes the parts of a line.
+/// Appends the parts of a line, with a space between them and a line feed at the end.
 pub(crate) fn push_parts(text: &mut WriteBuffer, sheet: &Sheet<'_>, head: Head, parts: &[SheetPart])
     requires there { All (IsPartOf sheet.now.totals.canton) parts.now }
     requires few { length parts.now ≤ MOST_PARTS }

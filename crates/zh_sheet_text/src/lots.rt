@@ -11,7 +11,7 @@ use zh_districts::Setup;
 use zh_sheet::{ListRanges, Lot, SeatRanges};
 use zh_text::push_number;
 
-/// A list with the fewest and the most seats that it has.
+/// A list with the fewest and the most seats that it has in any distribution.
 #[derive(Clone, Copy)]
 struct ListRange {
     constituency: u32,
@@ -23,27 +23,27 @@ struct ListRange {
 /// Which lists have a line.
 #[derive(Clone, Copy)]
 enum Listed {
-    /// Those in which distributions differ.
+    /// Those in which the distributions differ.
     Differing,
-    /// Those that have the same seats in each.
+    /// Those with the same seats in each distribution.
     Same,
 }
 
-/// Whether a place is marked, which it may be if it is there.
+/// Whether the mark at an index is set. Past the end none is.
 fn is_marked(marks: &[bool], place: usize) -> bool
     ensures { result ≡ slice_index_or marks.now place false }
 {
     marks.get(place).copied().unwrap_or(false)
 }
 
-/// The number in a place, and 0 past the end.
+/// The number at an index, or 0 past the end.
 fn number_in(numbers: &[u32], place: usize) -> u32
     ensures { result ≡ slice_index numbers.now place }
 {
     numbers.get(place).copied().unwrap_or(0)
 }
 
-/// The name of a constituency, if there is one of this number.
+/// The name of a constituency, or an empty text if there is no such constituency.
 fn constituency_behind(setup: &Setup, constituency: u32) -> &str
     ensures { result.now ≡ constituency_behind setup.now constituency }
 {
@@ -54,7 +54,7 @@ fn constituency_behind(setup: &Setup, constituency: u32) -> &str
     }
 }
 
-/// The name of a group, if there is one of this number.
+/// The name of a group, or an empty text if there is no such group.
 fn group_behind(setup: &Setup, group: u32) -> &str
     ensures { result.now ≡ group_behind setup.now group }
 {
@@ -65,7 +65,7 @@ fn group_behind(setup: &Setup, group: u32) -> &str
     }
 }
 
-/// Puts the names of a list at the end.
+/// Appends the names of a list, which follow its numbers.
 fn push_behind(out: &mut Vec<u8>, setup: &Setup, list: ListRange) -> Result<(), AllocError>
     ensures { OnOk result (out.new.items ≡ out.old.items ++ list_behind setup.now list) }
 {
@@ -75,7 +75,7 @@ fn push_behind(out: &mut Vec<u8>, setup: &Setup, list: ListRange) -> Result<(), 
     out.extend_from_slice(group_behind(setup, list.group).as_bytes())
 }
 
-/// Puts the line of a constituency at the end, if it is marked.
+/// Appends the line of a constituency, if it is marked.
 fn push_constituency(
     out: &mut Vec<u8>,
     setup: &Setup,
@@ -95,7 +95,7 @@ fn push_constituency(
     }
 }
 
-/// Puts the lines of the constituencies that are marked at the end.
+/// Appends the lines of the marked constituencies.
 fn push_constituencies(out: &mut Vec<u8>, setup: &Setup, marks: &[bool]) -> Result<(), AllocError>
     ensures { OnOk result (out.new.items ≡ out.old.items
         ++ each_to (length setup.now.constituencies) (tied_constituency_line setup.now marks.now)) }
@@ -106,7 +106,7 @@ fn push_constituencies(out: &mut Vec<u8>, setup: &Setup, marks: &[bool]) -> Resu
     Ok(())
 }
 
-/// Puts the line of a group at the end, if its seats differ.
+/// Appends the line of a group, if its seats differ.
 fn push_range(
     out: &mut Vec<u8>,
     setup: &Setup,
@@ -125,7 +125,7 @@ fn push_range(
     }
 }
 
-/// Puts the lines of the groups whose seats differ at the end.
+/// Appends the lines of the groups whose seats differ.
 fn push_groups(out: &mut Vec<u8>, setup: &Setup, ranges: &SeatRanges) -> Result<(), AllocError>
     ensures { OnOk result (out.new.items ≡ out.old.items
         ++ each_to (length setup.now.groups) (tied_group_line setup.now ranges.now)) }
@@ -138,7 +138,7 @@ fn push_groups(out: &mut Vec<u8>, setup: &Setup, ranges: &SeatRanges) -> Result<
     Ok(())
 }
 
-/// Puts the line of a list at the end, if it has one.
+/// Appends the line of a list, if it has one.
 fn push_listed(
     out: &mut Vec<u8>,
     setup: &Setup,
@@ -161,7 +161,7 @@ fn push_listed(
     }
 }
 
-/// The list of the group in a place, counted from 1, in a constituency.
+/// The list of a constituency and of the group at a place in `groups`, counted from 1.
 fn range_of(lists: &ListRanges, constituency: u32, place: u32) -> ListRange
     requires from_one { 1 ≤ constituency }
     requires there { constituency ≤ lists.now.constituencies }
@@ -177,7 +177,7 @@ fn range_of(lists: &ListRanges, constituency: u32, place: u32) -> ListRange
     }
 }
 
-/// Puts the lines of the lists of a constituency at the end.
+/// Appends the lines of the lists of a constituency.
 fn push_listed_in(
     out: &mut Vec<u8>,
     setup: &Setup,
@@ -196,7 +196,7 @@ fn push_listed_in(
     Ok(())
 }
 
-/// Puts the lines of the lists at the end.
+/// Appends the lines of the lists.
 fn push_lists(
     out: &mut Vec<u8>,
     setup: &Setup,
@@ -211,7 +211,7 @@ fn push_lists(
     Ok(())
 }
 
-/// Puts what the lot decides at the end.
+/// Appends what the lot decides.
 pub(crate) fn push_lot(out: &mut Vec<u8>, setup: &Setup, lot: &Lot) -> Result<(), AllocError>
     ensures { OnOk result (out.new.items ≡ out.old.items ++ lot_text setup.now lot.now) }
 {

@@ -1,4 +1,4 @@
-//! What a sheet is marked as.
+//! How a sheet is marked: final or provisional, after which command, and who says so.
 ghost use Rattle.std.specs.Prelude.{◌≡◌};
 ghost use Rattle.zh_sheet_text.specs.Lists.{kind};
 ghost use Rattle.zh_sheet_text.specs.SeatTable.{whose};
@@ -6,17 +6,17 @@ ghost use Rattle.zh_sheet_text.specs.SeatTable.{whose};
 use zh_commands::Refusal;
 use zh_sheet::{ExhaustedReason, Lot, Sheet, SheetRefusal};
 
-/// Whose word a mark is.
+/// Who says what a mark states.
 #[derive(Clone, Copy, Debug, PartialEq, Eq)]
 pub enum Source {
-    /// That of the count from which the seats are made.
+    /// The count from which the seats are computed.
     Count,
-    /// That of a published sheet, by which nobody can tell whether it is so.
+    /// A published sheet. Nobody can tell from it whether what it states is true.
     Sheet,
 }
 
 impl Source {
-    /// Whose word it is, if it is not the count's.
+    /// What is added to a statement of a published sheet. Empty for the count.
     pub(crate) fn whose(self) -> &'static str
         ensures { result.now ≡ whose self }
     {
@@ -27,7 +27,7 @@ impl Source {
     }
 }
 
-/// What seats are marked with: whether they are final, how many commands were accepted before, and whose word that is.
+/// How seats are marked: whether they are final, how many commands were accepted before, and who says so.
 #[derive(Clone, Copy, Debug, PartialEq, Eq)]
 pub struct Mark {
     pub is_final: bool,
@@ -36,7 +36,7 @@ pub struct Mark {
 }
 
 impl Mark {
-    /// Whether they are final, in a word, with one before it if a sheet states it.
+    /// `final` or `provisional`, after `stated` if a published sheet says so.
     pub fn kind(&self) -> &str
         ensures { result.now ≡ kind self.now }
     {
@@ -49,7 +49,7 @@ impl Mark {
     }
 }
 
-/// A sheet, with what its seats are marked with.
+/// A sheet and the mark of its seats.
 #[derive(Drop)]
 pub struct MarkedSheet<'s> {
     pub sheet: Sheet<'s>,
@@ -59,12 +59,12 @@ pub struct MarkedSheet<'s> {
 /// Why there are no seats.
 #[derive(Drop)]
 pub enum NoSeats {
-    /// The sheet is refused, as its line is.
+    /// The sheet is refused, like a line that asks for it.
     Refused(Refusal),
-    /// It is refused because the search for divisors ended without any, for this reason.
+    /// The sheet is refused because the search for divisors was exhausted, for this reason.
     Exhausted(ExhaustedReason),
-    /// It is refused because seats are tied, between which the lot decides.
+    /// The sheet is refused because seats are tied. The lot decides between the results.
     Tied(SheetRefusal, Lot),
-    /// The text is no sheet of the set-up that is right.
+    /// The text is not a right sheet of this set-up.
     Wrong,
 }

@@ -1,4 +1,4 @@
-//! What is reported where there are no seats.
+//! The report of why there are no seats.
 
 ghost use Rattle.std.specs.Prelude.{◌≡◌, ◌≤◌, ◌++◌, ◌∷◌, [], IfOk, OnOk, codes, decimal, length};
 ghost use Rattle.zh_text.specs.Each.{each_to};
@@ -14,7 +14,7 @@ use zh_districts::Setup;
 use zh_sheet::{ExhaustedReason, ListSeats, SheetRefusal};
 use zh_text::push_number;
 
-/// Puts the line of a refusal at the end.
+/// Appends the line of a refusal.
 fn push_refusal(out: &mut Vec<u8>, refusal: Refusal) -> Result<(), AllocError>
     ensures { OnOk result (out.new.items ≡ out.old.items ++ refusal_line refusal) }
 {
@@ -22,7 +22,7 @@ fn push_refusal(out: &mut Vec<u8>, refusal: Refusal) -> Result<(), AllocError>
     out.extend_from_slice(&answer_line(&Reply::Refused(refusal)))
 }
 
-/// Puts a space and a number at the end.
+/// Appends a space and a number.
 pub(crate) fn push_spaced(out: &mut Vec<u8>, number: u32) -> Result<(), AllocError>
     ensures { OnOk result (out.new.items ≡ out.old.items ++ (32 ∷ decimal number)) }
 {
@@ -30,7 +30,7 @@ pub(crate) fn push_spaced(out: &mut Vec<u8>, number: u32) -> Result<(), AllocErr
     push_number(out, number)
 }
 
-/// Puts the number of a constituency at the end, if it is marked.
+/// Appends a space and the number of a constituency, if it is marked.
 fn push_if_marked(
     out: &mut Vec<u8>,
     marked: &MarkedRows,
@@ -47,7 +47,7 @@ fn push_if_marked(
     }
 }
 
-/// Puts the constituencies that are marked at the end.
+/// Appends the numbers of the marked constituencies.
 fn push_marked(out: &mut Vec<u8>, setup: &Setup, marked: &MarkedRows) -> Result<(), AllocError>
     ensures { OnOk result (out.new.items ≡ out.old.items
         ++ each_to (length setup.now.constituencies) (number_if_among marked.now)) }
@@ -58,7 +58,7 @@ fn push_marked(out: &mut Vec<u8>, setup: &Setup, marked: &MarkedRows) -> Result<
     Ok(())
 }
 
-/// Puts the constituency and the group of a near tie at the end.
+/// Appends `nearly tied`, the constituency and the group.
 fn push_near_tie(out: &mut Vec<u8>, constituency: u32, group: u32) -> Result<(), AllocError>
     ensures { OnOk result (out.new.items
         ≡ out.old.items ++ (codes "nearly tied" ++ 32 ∷ decimal constituency ++ 32 ∷ decimal group)) }
@@ -68,7 +68,7 @@ fn push_near_tie(out: &mut Vec<u8>, constituency: u32, group: u32) -> Result<(),
     push_spaced(out, group)
 }
 
-/// Puts a line with three numbers at the end, beginning with the end of the line before.
+/// Appends a line feed and then three numbers, with a space between them.
 pub(crate) fn push_line(out: &mut Vec<u8>, one: u32, two: u32, three: u32) -> Result<(), AllocError>
     ensures { OnOk result (out.new.items ≡ out.old.items ++ (10 ∷ decimal one ++ 32 ∷ decimal two ++ 32 ∷ decimal three)) }
 {
@@ -78,7 +78,7 @@ pub(crate) fn push_line(out: &mut Vec<u8>, one: u32, two: u32, three: u32) -> Re
     push_spaced(out, three)
 }
 
-/// Puts the line of a list at the end, if it has seats.
+/// Appends the line of a list, if it has seats.
 pub(crate) fn push_list(
     out: &mut Vec<u8>,
     constituency: u32,
@@ -94,7 +94,7 @@ pub(crate) fn push_list(
     }
 }
 
-/// Puts the lines of a constituency at the end.
+/// Appends the lines of the lists of a constituency that have seats.
 fn push_lists(out: &mut Vec<u8>, lists: &ListSeats, constituency: u32) -> Result<(), AllocError>
     requires from_one { 1 ≤ constituency }
     requires there { constituency ≤ lists.now.constituencies }
@@ -108,7 +108,7 @@ fn push_lists(out: &mut Vec<u8>, lists: &ListSeats, constituency: u32) -> Result
     Ok(())
 }
 
-/// Puts the only seats at the end.
+/// Appends the only seats that there are, without a sheet.
 fn push_only_seats(out: &mut Vec<u8>, lists: &ListSeats) -> Result<(), AllocError>
     ensures { OnOk result (out.new.items ≡ out.old.items ++ only_seats_text lists.now) }
 {
@@ -119,7 +119,7 @@ fn push_only_seats(out: &mut Vec<u8>, lists: &ListSeats) -> Result<(), AllocErro
     Ok(())
 }
 
-/// Puts a reason at the end.
+/// Appends the reason of an exhausted search.
 fn push_reason(out: &mut Vec<u8>, setup: &Setup, reason: &ExhaustedReason) -> Result<(), AllocError>
     ensures { OnOk result (out.new.items ≡ out.old.items ++ reason_text setup.now reason.now) }
 {
@@ -138,8 +138,8 @@ fn push_reason(out: &mut Vec<u8>, setup: &Setup, reason: &ExhaustedReason) -> Re
     }
 }
 
-/// What is reported of why there are no seats: the refusal in a line; of an exhausted search its reason in another; and of
-/// tied seats what the lot decides.
+/// The report of why there are no seats. Its first line is the refusal. After `exhausted` the next lines are the
+/// reason; after a tie they are what the lot decides.
 pub fn refusal_text(alloc: Global, setup: &Setup, why: &NoSeats) -> Result<Vec<u8>, AllocError>
     ensures { IfOk result (λ text. text.items ≡ refusal_text setup.now why.now) }
 {

@@ -41,7 +41,7 @@ impl<'a, 's> TableCells for Seats<'a, 's> {
     }
 }
 
-/// What stands in a line and a column.
+/// The text of a cell.
 fn seat_cell(sheet: &Sheet<'_>, line: TablePlace, column: TablePlace) -> CellText
     requires line { IsTablePlace (length sheet.now.totals.canton.constituencies) line }
     requires column { IsTablePlace (length sheet.now.totals.canton.groups) column }
@@ -84,7 +84,7 @@ fn list_cell(sheet: &Sheet<'_>, constituency: u32, group: u32) -> CellText
     }
 }
 
-/// Puts how the seats are marked.
+/// Appends the title: how the seats are marked.
 fn push_title(out: &mut Vec<u8>, mark: Mark) -> Result<(), AllocError>
     ensures { OnOk result (out.new.items ≡ out.old.items ++ title mark) }
 {
@@ -98,7 +98,7 @@ fn push_title(out: &mut Vec<u8>, mark: Mark) -> Result<(), AllocError>
     out.extend_from_slice(b"\n")
 }
 
-/// A table of what a sheet says, below how its seats are marked.
+/// A table of a sheet for people, below its title.
 pub fn marked_table<T: TableCells>(
     alloc: Global,
     cells: &T,
@@ -113,7 +113,8 @@ pub fn marked_table<T: TableCells>(
     Ok(out)
 }
 
-/// The seats of a sheet as a table for people, marked so: constituencies in lines and groups in columns, with totals.
+/// The seats of a sheet as a table for people, below the title: a line for each constituency and a column for each
+/// group, with totals.
 pub fn seat_table(alloc: Global, sheet: &Sheet<'_>, mark: Mark) -> Result<Vec<u8>, AllocError>
     ensures { IfOk result (λ text. text.items ≡ table_text sheet.now mark) }
 {

@@ -47,7 +47,7 @@ impl<'a, 's, W: Write + Drop> NumberedRows<W> for StandingIn<'a, 's> {
     }
 }
 
-/// The lists that stand, constituency by constituency.
+/// The lists that stand, by constituency.
 #[derive(Drop)]
 struct Standing<'a, 's> {
     sheet: &'a Sheet<'s>,
@@ -78,8 +78,8 @@ impl<'a, 's, W: Write + Drop> NumberedRows<W> for Standing<'a, 's> {
     }
 }
 
-/// Writes the seats of a sheet, marked so: the names of the columns, and then a record for each list that stands, by
-/// constituency and then group. It gives the writer back. After an error a front of the text may be written.
+/// Writes the seats of a sheet with their mark: a record with the names of the columns, then one for each list that
+/// stands, by constituency and group. Returns the writer. On an error, a prefix of the text might have been written.
 pub fn write_seats<W: Write + Drop>(
     sheet: &Sheet<'_>,
     mark: Mark,
@@ -149,7 +149,7 @@ fn write_list<W: Write + Drop>(
     write_record(writer, &fields)
 }
 
-/// Votes over the product of the divisors of their constituency and group, which are in millionths: so many whole millionths.
+/// The quotient of votes and two divisors, in millionths, rounded down. The divisors are in millionths too.
 fn quotient(votes: u64, of_constituency: u64, of_group: u64) -> u128
     requires votes { votes ≤ 10 ^ 14 }
     requires constituency { 1 ≤ of_constituency }
@@ -160,7 +160,7 @@ fn quotient(votes: u64, of_constituency: u64, of_group: u64) -> u128
     u128::from(votes) * 1_000_000_000_000_000_000 / product
 }
 
-/// The quotient of a list, if its group has seats.
+/// The quotient of a list in millionths, rounded down, or `None` if its group has no seats.
 fn list_quotient(sheet: &Sheet<'_>, constituency: u32, group: u32) -> Option<u128>
     requires from_one { 1 ≤ constituency }
     requires there { constituency ≤ length sheet.now.totals.canton.constituencies }
@@ -175,7 +175,7 @@ fn list_quotient(sheet: &Sheet<'_>, constituency: u32, group: u32) -> Option<u12
     Some(quotient(votes, of_constituency, of_group))
 }
 
-/// A number of millionths that there may be, with six digits after the dot.
+/// A number of millionths, with six digits after the dot, or an empty text.
 pub fn millionths_or_nothing(millionths: Option<u128>) -> DecimalText
     ensures { result.items ≡ option_map_or divisor_text millionths [] }
 {
@@ -185,7 +185,7 @@ pub fn millionths_or_nothing(millionths: Option<u128>) -> DecimalText
     }
 }
 
-/// A number that there may be.
+/// A number, or an empty text.
 pub fn number_or_nothing(number: Option<u64>) -> ArrayVec<u8, 20>
     ensures { result.items ≡ option_map_or decimal number [] }
 {

@@ -1,4 +1,4 @@
-//! The lines of a sheet, in their order (docs/FORMATS.md, "The sheet"), and its text, written through a buffer.
+//! The lines of a sheet in order (docs/FORMATS.md, "The sheet"), and its text, written through a buffer.
 ghost use Rattle.std.specs.Io.KnownBytes.{Appends};
 ghost use Rattle.std.specs.Prelude.{◌≡◌, ◌≤◌, length, slice_index_or, ◌+◌, ◌<◌, ℕ, All, OnErr, OnOk, take};
 ghost use Rattle.zh_districts.specs.Canton.{IsCanton};
@@ -14,7 +14,7 @@ use zh_districts::Setup;
 use zh_sheet::Sheet;
 use zh_text::WriteFault;
 
-/// The first line: the desk, whether the sheet is final, and how many commands were accepted.
+/// The first line: the desk, whether the sheet is final, and the number of accepted commands.
 fn head_line() -> LineParts
     ensures { result ≡ head_line }
 {
@@ -41,7 +41,7 @@ fn house_line(setup: &Setup) -> LineParts
     )
 }
 
-/// A divisor of seats, which is not reduced.
+/// The line of a divisor of seats, a fraction that is not reduced.
 fn key_line(whose: Label, key: SheetPart) -> LineParts
     ensures { result ≡ key_line whose key }
 {
@@ -51,7 +51,7 @@ fn key_line(whose: Label, key: SheetPart) -> LineParts
     )
 }
 
-/// The canton-wide quorum, where there is one.
+/// The line of the canton-wide quorum, if the set-up has one.
 fn quorum_line(setup: &Setup) -> LineParts
     ensures { result ≡ quorum_line setup.now.canton_quorum }
 {
@@ -141,7 +141,7 @@ fn end_line() -> LineParts
     LineParts::of(true, &[SheetPart::Fixed(Label::End)])
 }
 
-/// The line at a place below that of the canton-wide quorum.
+/// The line at a place below that of the canton-wide quorum, from 0.
 fn line_below(setup: &Setup, place: u32) -> LineParts
     ensures { result ≡ slice_index_or (lines_below setup.now) place end_line }
 {
@@ -160,7 +160,7 @@ fn line_below(setup: &Setup, place: u32) -> LineParts
     end_line()
 }
 
-/// How many lines a sheet has, with those that are not there.
+/// The number of lines of a sheet, including those that are not written. At most 1,094.
 pub fn line_count(setup: &Setup) -> u32
     ensures count { result ≡ length (sheet_lines setup.now) }
     ensures few { result ≤ 1094 }
@@ -170,7 +170,7 @@ pub fn line_count(setup: &Setup) -> u32
     6 + rows + columns + rows * columns
 }
 
-/// The line at a place, from 0; the last where there are no more.
+/// The line at a place, from 0. Past the end it is the last line.
 pub fn line_at(setup: &Setup, place: u32) -> LineParts
     ensures { result ≡ slice_index_or (sheet_lines setup.now) place end_line }
 {
@@ -184,7 +184,7 @@ pub fn line_at(setup: &Setup, place: u32) -> LineParts
     }
 }
 
-/// Writes a line, where it is there, and makes room for the next.
+/// Puts a line into the buffer, if it is written, and makes room there for the next line.
 fn print_line<W: Write>(
     buffer: &mut WriteBuffer,
     out: &mut W,
@@ -204,10 +204,10 @@ fn print_line<W: Write>(
     make_room(buffer, out)
 }
 
-/// Writes the text of a sheet for a desk, as final or provisional, after so many accepted commands
+/// Writes the text of a sheet for a desk, as final or provisional, after this number of accepted commands
 /// (docs/FORMATS.md, "The sheet").
 ///
-/// After an error of the writer a front of the text is written, never all. It takes no memory.
+/// If the writer fails, a proper prefix of the text was written. It allocates nothing.
 pub fn write_sheet<W: Write>(
     sheet: &Sheet<'_>,
     desk: u8,

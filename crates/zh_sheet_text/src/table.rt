@@ -1,4 +1,4 @@
-//! A table for people: lines and columns, or where that is too wide each line above its fields.
+//! A table for people, with lines and columns. If it is too wide, the fields of each line are below it, a line each.
 ghost use Rattle.std.specs.Prelude.{◌≡◌, ◌≤◌, ◌+◌, ◌++◌, OnOk, length, decimal, replicate};
 ghost use Rattle.zh_sheet_text.specs.Table.{IsTablePlace, characters, column_width, field_line, grid_text, on_left, on_right, table_place};
 ghost use Rattle.zh_sheet_text.specs.Table.{table_width, tall_lines, tall_table, tall_width, wide_cells, wide_line, wide_table};
@@ -8,13 +8,13 @@ use arrayvec::ArrayVec;
 use std::alloc::AllocError;
 use zh_text::{push, push_numeral};
 
-/// The columns of characters that the wide table has at most.
+/// The most characters in a line of the wide table.
 const MOST_COLUMNS: usize = 80;
 
-/// What stands in a line and a column of a table.
+/// The text of a cell.
 pub type CellText = ArrayVec<u8, 48>;
 
-/// A text in a cell.
+/// A cell with a text of at most 48 bytes.
 pub fn text_cell(text: &str) -> CellText
     requires { length text.now ≤ 48 }
     ensures { result.items ≡ text.now }
@@ -24,7 +24,7 @@ pub fn text_cell(text: &str) -> CellText
     cell
 }
 
-/// A number in a cell.
+/// A cell with a number.
 pub fn number_cell(number: u64) -> CellText
     ensures { result.items ≡ decimal number }
 {
@@ -33,18 +33,18 @@ pub fn number_cell(number: u64) -> CellText
     cell
 }
 
-/// Which of the lines or the columns of so many things one is.
+/// The place of a line or a column among those of a number of things.
 #[derive(Clone, Copy)]
 pub enum TablePlace {
-    /// That before the first of them.
+    /// The heading: before the first of the things.
     Head,
-    /// That of the one with this number.
+    /// The line or column of the thing with this number.
     At(u32),
-    /// That of all.
+    /// The line or column of all of them.
     Total,
 }
 
-/// The place of a line or a column, of so many things.
+/// The place of line or column `number` among those of `last` things.
 pub fn table_place(last: u32, number: u32) -> TablePlace
     ensures place { result ≡ table_place last number }
     ensures there { IsTablePlace last result }
@@ -58,29 +58,29 @@ pub fn table_place(last: u32, number: u32) -> TablePlace
     }
 }
 
-/// What stands in the lines and the columns of a table: line 0 is its heading, and column 0 says what a line is of.
+/// The cells of a table. Line 0 is its heading, and column 0 says what each line is about.
 pub trait TableCells {
     ghost use Rattle.std.specs.Prelude.{◌≡◌, ◌≤◌};
     ghost use Rattle.zh_sheet_text.specs.Table.{Grid};
 
-    /// What must hold of them.
+    /// What must hold for the cells to be read.
     ghost AreCells: { Self → Type 0 };
 
-    /// What stands there.
+    /// The lines, columns and cells that clauses know.
     ghost grid: { Self → Grid };
 
-    /// How many lines there are below the heading.
+    /// The number of lines below the heading.
     fn lines(&self) -> u32
         ensures lines { result ≡ (grid self.now).lines }
         ensures few { result ≤ 33 };
 
-    /// How many columns there are on the right of the first.
+    /// The number of columns to the right of the first.
     fn columns(&self) -> u32
         ensures columns { result ≡ (grid self.now).columns }
         ensures some { 1 ≤ result }
         ensures few { result ≤ 33 };
 
-    /// What stands in a line and a column.
+    /// The text of a cell.
     fn cell(&self, line: u32, column: u32) -> CellText
         requires whole { AreCells self.now }
         requires line { line ≤ (grid self.now).lines }
@@ -88,7 +88,7 @@ pub trait TableCells {
         ensures { result.items ≡ (grid self.now).cell line column };
 }
 
-/// How many characters a text has.
+/// The number of characters of a text in UTF-8: each byte counts, except continuation bytes (128 to 191).
 fn characters(text: &[u8]) -> usize
     ensures characters { result ≡ characters text.now }
     ensures few { result ≤ length text.now }
@@ -98,7 +98,7 @@ fn characters(text: &[u8]) -> usize
         .count()
 }
 
-/// The characters of the text in a cell.
+/// The number of characters in a cell.
 fn cell_width<T: TableCells>(cells: &T, line: u32, column: u32) -> usize
     requires whole { T.AreCells cells.now }
     requires line { line ≤ (T.grid cells.now).lines }
@@ -109,7 +109,7 @@ fn cell_width<T: TableCells>(cells: &T, line: u32, column: u32) -> usize
     characters(&cells.cell(line, column))
 }
 
-/// The characters of the longest text in a column below the heading, or three.
+/// The number of characters in the longest cell of a column, without the heading, at least three.
 fn widest_below<T: TableCells>(cells: &T, column: u32) -> usize
     requires whole { T.AreCells cells.now }
     requires column { column ≤ (T.grid cells.now).columns }
@@ -123,7 +123,7 @@ fn widest_below<T: TableCells>(cells: &T, column: u32) -> usize
     width
 }
 
-/// The characters of the longest text in a column, or three.
+/// The number of characters in the longest cell of a column, at least three.
 fn widest<T: TableCells>(cells: &T, column: u32) -> usize
     requires whole { T.AreCells cells.now }
     requires column { column ≤ (T.grid cells.now).columns }
@@ -133,7 +133,7 @@ fn widest<T: TableCells>(cells: &T, column: u32) -> usize
     widest_below(cells, column).max(cell_width(cells, 0, column))
 }
 
-/// The width of a column, with the two spaces before it.
+/// The width of a column, including the two spaces before it.
 fn column_width<T: TableCells>(cells: &T, column: u32) -> usize
     requires whole { T.AreCells cells.now }
     requires column { column ≤ (T.grid cells.now).columns }
@@ -155,7 +155,7 @@ fn table_width<T: TableCells>(cells: &T) -> usize
     width
 }
 
-/// The width of the column of the tall table.
+/// The width of the only column of the tall table, including the two spaces before it.
 fn tall_width<T: TableCells>(cells: &T) -> usize
     requires { T.AreCells cells.now }
     ensures { result ≡ tall_width (T.grid cells.now) }
@@ -167,7 +167,7 @@ fn tall_width<T: TableCells>(cells: &T) -> usize
     2 + width
 }
 
-/// Puts the cells of a line of the wide table, side by side.
+/// Appends the cells of a line of the wide table, except the first.
 fn push_cells<T: TableCells>(out: &mut Vec<u8>, cells: &T, line: u32) -> Result<(), AllocError>
     requires whole { T.AreCells cells.now }
     requires line { line ≤ (T.grid cells.now).lines }
@@ -180,7 +180,7 @@ fn push_cells<T: TableCells>(out: &mut Vec<u8>, cells: &T, line: u32) -> Result<
     Ok(())
 }
 
-/// Puts a line of the wide table.
+/// Appends a line of the wide table.
 fn push_wide_line<T: TableCells>(out: &mut Vec<u8>, cells: &T, line: u32) -> Result<(), AllocError>
     requires whole { T.AreCells cells.now }
     requires line { line ≤ (T.grid cells.now).lines }
@@ -191,7 +191,7 @@ fn push_wide_line<T: TableCells>(out: &mut Vec<u8>, cells: &T, line: u32) -> Res
     out.extend_from_slice(b"\n")
 }
 
-/// Puts the wide table.
+/// Appends the wide table.
 fn push_wide_table<T: TableCells>(out: &mut Vec<u8>, cells: &T) -> Result<(), AllocError>
     requires { T.AreCells cells.now }
     ensures { OnOk result (out.new.items ≡ out.old.items ++ wide_table (T.grid cells.now)) }
@@ -203,7 +203,7 @@ fn push_wide_table<T: TableCells>(out: &mut Vec<u8>, cells: &T) -> Result<(), Al
     Ok(())
 }
 
-/// Puts the line of a field in the tall table.
+/// Appends the line of a field of the tall table.
 fn push_field<T: TableCells>(
     out: &mut Vec<u8>,
     cells: &T,
@@ -221,7 +221,7 @@ fn push_field<T: TableCells>(
     out.extend_from_slice(b"\n")
 }
 
-/// Puts a line of the tall table, with those of its fields.
+/// Appends a line of the tall table, and below it those of its fields.
 fn push_tall_lines<T: TableCells>(out: &mut Vec<u8>, cells: &T, line: u32) -> Result<(), AllocError>
     requires whole { T.AreCells cells.now }
     requires line { line ≤ (T.grid cells.now).lines }
@@ -237,7 +237,7 @@ fn push_tall_lines<T: TableCells>(out: &mut Vec<u8>, cells: &T, line: u32) -> Re
     Ok(())
 }
 
-/// Puts the tall table.
+/// Appends the tall table.
 fn push_tall_table<T: TableCells>(out: &mut Vec<u8>, cells: &T) -> Result<(), AllocError>
     requires { T.AreCells cells.now }
     ensures { OnOk result (out.new.items ≡ out.old.items ++ tall_table (T.grid cells.now)) }
@@ -248,8 +248,8 @@ fn push_tall_table<T: TableCells>(out: &mut Vec<u8>, cells: &T) -> Result<(), Al
     Ok(())
 }
 
-/// Puts a table for people at the end: lines and columns, where that has at most 80 columns of characters, and else each line
-/// above its fields.
+/// Appends a table for people: the wide one if it has at most 80 characters in a line, otherwise the tall one, in which
+/// the fields of each line are below it.
 pub fn push_table<T: TableCells>(out: &mut Vec<u8>, cells: &T) -> Result<(), AllocError>
     requires { T.AreCells cells.now }
     ensures { OnOk result (out.new.items ≡ out.old.items ++ grid_text (T.grid cells.now)) }
@@ -261,7 +261,7 @@ pub fn push_table<T: TableCells>(out: &mut Vec<u8>, cells: &T) -> Result<(), All
     }
 }
 
-/// Puts so many spaces at the end.
+/// Appends spaces.
 fn push_spaces(out: &mut Vec<u8>, count: usize) -> Result<(), AllocError>
     ensures { OnOk result (out.new.items ≡ out.old.items ++ replicate count 32) }
 {
@@ -271,7 +271,7 @@ fn push_spaces(out: &mut Vec<u8>, count: usize) -> Result<(), AllocError>
     Ok(())
 }
 
-/// Puts a text at the end, on the left of a column.
+/// Appends a text, aligned left in a column.
 fn push_left(out: &mut Vec<u8>, width: usize, text: &[u8]) -> Result<(), AllocError>
     ensures { OnOk result (out.new.items ≡ out.old.items ++ on_left width text.now) }
 {
@@ -279,7 +279,7 @@ fn push_left(out: &mut Vec<u8>, width: usize, text: &[u8]) -> Result<(), AllocEr
     push_spaces(out, width.saturating_sub(characters(text)))
 }
 
-/// Puts a text at the end, on the right of a column.
+/// Appends a text, aligned right in a column.
 fn push_right(out: &mut Vec<u8>, width: usize, text: &[u8]) -> Result<(), AllocError>
     ensures { OnOk result (out.new.items ≡ out.old.items ++ on_right width text.now) }
 {

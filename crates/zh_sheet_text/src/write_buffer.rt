@@ -1,4 +1,4 @@
-//! The buffer through which a sheet is written, so that it goes out in few writes.
+//! The buffer through which a sheet is written, so that only a few writes are needed.
 ghost use Rattle.std.specs.Prelude.{◌≡◌, ◌+◌, ◌≤◌, [], length, OnErr, OnOk};
 ghost use Rattle.zh_sheet_text.specs.Printing.{Prints, WritesFront};
 
@@ -6,19 +6,19 @@ use arrayvec::ArrayVec;
 use std::io::Write;
 use zh_text::{WriteFault, put};
 
-/// The bytes that the buffer has room for.
+/// The capacity of the buffer in bytes.
 pub(crate) const ROOM: usize = 4096;
 
-/// The bytes of the longest part, and more.
+/// An upper bound of the bytes of a part.
 pub(crate) const PART: usize = 41;
 
-/// The bytes of the longest line, and more.
+/// An upper bound of the bytes of a line.
 pub(crate) const LINE: usize = 512;
 
-/// Text that waits for the writer. It takes no memory.
+/// Text that is still to be written. It allocates nothing.
 pub(crate) type WriteBuffer = ArrayVec<u8, ROOM>;
 
-/// Hands what waits to the writer.
+/// Writes all text in the buffer and empties it.
 pub(crate) fn send<W: Write>(buffer: &mut WriteBuffer, out: &mut W) -> Result<(), WriteFault>
     ensures sends { OnOk result (Prints (W.contents out.old) buffer.old.items (W.contents out.new) buffer.new.items []) }
     ensures empty { OnOk result (buffer.new.items ≡ []) }
@@ -29,7 +29,7 @@ pub(crate) fn send<W: Write>(buffer: &mut WriteBuffer, out: &mut W) -> Result<()
     Ok(())
 }
 
-/// Makes room for one more line.
+/// Makes room in the buffer for one more line, by writing its text if necessary.
 pub(crate) fn make_room<W: Write>(buffer: &mut WriteBuffer, out: &mut W) -> Result<(), WriteFault>
     ensures sends { OnOk result (Prints (W.contents out.old) buffer.old.items (W.contents out.new) buffer.new.items []) }
     ensures room { OnOk result (length buffer.new.items + LINE ≤ ROOM) }

@@ -1,4 +1,4 @@
--- What the writes of a formatting leave.
+-- What the writes of formatting leave.
 use Rattle.std.proofs.Common.{◌≡◌, inl, inr, ℕ, ◌+◌, ◌-◌, ◌<◌, ◌≤◌, List, [], ◌∷◌, length, refl, sym, ◌∙◌, ap, subst, arith, Result}
 use Rattle.std.specs.Prelude.{slice_index, slice_range}
 use Rattle.std.specs.Int.{w64, to_be_bytes, from_be_bytes}
@@ -18,7 +18,7 @@ use Rattle.zh_snapshot.specs.Format.{IsFormatted, BlankOrFormatted}
 use Rattle.zh_snapshot.specs.Parts.{HasParts, IsEmptied}
 use Rattle.zh_snapshot.proofs.RangeLemmas.{same_trans, same_wider, slice_kept, slice_part, placed}
 
--- a write after the disk gate
+-- a write after the disk's gate
 pub after_gate : (t u : Trail) (at : ℕ) (bytes : List ℕ) (result : Result (Unit {0}) DiskFault) → length t.now.bytes ≡ 1118720 → 1 ≤ at
     → at + length bytes ≤ 1118720 → Writes at bytes result t u → Leaves (SameOutside 1 1118719) t u
 after_gate t u at bytes result long low fits writes =
@@ -27,7 +27,7 @@ after_gate t u at bytes result long low fits writes =
 pub one_more : (a b c : Trail) → Leaves (SameOutside 1 1118719) a b → Leaves (SameOutside 1 1118719) b c → Leaves (SameOutside 1 1118719) a c
 one_more a b c = leaves_more (SameOutside 1 1118719) a b c (same_refl 1 1118719) (same_trans 1 1118719)
 
--- the same as a change, at a place and of bytes that were named otherwise
+-- the same as a change, at a place and of bytes that equal others
 pub after_gate_is : (t u : Trail) (at at' : ℕ) (bytes bytes' : List ℕ) (result : Result (Unit {0}) DiskFault) → length t.now.bytes ≡ 1118720
     → at ≡ at' → bytes ≡ bytes' → 1 ≤ at' → at' + length bytes' ≤ 1118720
     → Writes at bytes result t u → Changes (SameOutside 1 1118719) (λ old new. new.bytes ≡ splice at' bytes' old.bytes) result t u
@@ -38,12 +38,12 @@ after_gate_is t u at at' bytes bytes' result long place same low fits writes =
       done = (write_changes t u at' (length bytes') bytes' result refl (omega arith) here).done;
     }
 
--- so zeros at the second slot's head
+-- zeros written over the second slot's head, as a change
 pub head_zeroed : (t u : Trail) (at : ℕ) → at ≡ slot_at Second → (result : Result (Unit {0}) DiskFault) → length t.now.bytes ≡ 1118720 → Writes at (0 ∷ 0 ∷ 0 ∷ 0 ∷ 0 ∷ 0 ∷ 0 ∷ 0 ∷ 0 ∷ []) result t u
     → Changes (SameOutside 1 1118719) (λ old new. new.bytes ≡ splice (slot_at Second) (0 ∷ 0 ∷ 0 ∷ 0 ∷ 0 ∷ 0 ∷ 0 ∷ 0 ∷ 0 ∷ []) old.bytes) result t u
 head_zeroed t u at place result long writes = after_gate_is t u at (slot_at Second) _ _ result long place refl (omega arith) (omega arith) writes
 
--- so a clearing of the first slot's journal
+-- the clearing of the first slot's journal, as a change
 pub cleared_is : {T : Type 0} (t u : Trail) (at : ℕ) (result : Result T DiskFault) → at ≡ journal_at First → Clears at result t u
     → Changes (SameOutside 1 1118719) (λ old new. IsCleared (journal_at First) old.bytes new.bytes) result t u
 cleared_is t u at result place clears =
@@ -150,7 +150,7 @@ module _ (setup first b1 b2 : List ℕ) (long : length b1 ≡ 1118720) (most : l
     | inr shut ↦ inl shut
   ]
 
--- under a disk gate that is closed on the disk
+-- while the disk's gate is closed on the disk, the disk stays blank
 pub stays_blank : (t u : Trail) → (t.now.pending ≡ []) × IsBlank t.now.bytes → Leaves (SameOutside 1 1118719) t u → Leaves (λ d c. IsBlank c) t u
 stays_blank t u closed run = leaves_weaken _ _ t u
     (λ x f image by.

@@ -20,13 +20,13 @@ use Rattle.zh_snapshot.specs.Store.{State, Fits, StoreAdds, StoreAddsOrNot}
 use Rattle.zh_snapshot.proofs.RangeLemmas.{slice_kept}
 use Rattle.zh_snapshot.proofs.SlotLemmas.{bounds, apart, head_kept, in_use_kept, held, closed_there}
 
--- what a clean image's area holds
+-- what the area of a clean image holds
 pub clean_holds : (slot : Slot) (x : Content) (j : ℕ) (c : List ℕ) → IsInUse slot c → IsClean x j c → HoldsArea (journal_at slot) j x.records c
 clean_holds slot x j c used clean =
     let h = held slot x j c used clean.framed in
     record { frames = h.records.0; fits = h.records.1.0; closed = closed_there slot x j c used clean }
 
--- writes in the journal of the slot in use alone
+-- only the journal of the slot in use changes
 module _ (slot : Slot) (d c : List ℕ) (long : length d ≡ 1118720) (by : SameOutside (journal_at slot) 262144 d c) (used : IsInUse slot d) where
   low : slot_at First ≤ slot_at slot
   low = (bounds slot).0
@@ -43,7 +43,7 @@ module _ (slot : Slot) (d c : List ℕ) (long : length d ≡ 1118720) (by : Same
   kept : (a b : ℕ) → a ≤ b → b ≤ journal_at slot → slice_range c a b ≡ slice_range d a b
   kept a b le high = slice_kept (journal_at slot) 262144 a b d c by (inl high) le (omega (arith, high, (bounds slot).1, long))
 
-  -- there are other records
+  -- the journal has other records
   pub clean_by : (x : Content) (rs : List (List ℕ)) (j i : ℕ) → IsClean x j d → HoldsArea (journal_at slot) i rs c → IsClean (record x { records = rs }) i c
   clean_by x rs j i clean holds =
       let f = clean.framed in
@@ -93,7 +93,7 @@ module _ (s : State) (r d c : List ℕ) (long : length d ≡ 1118720) where
         (by.area x.records holds);
   }
 
--- an append to the area, as one to the store
+-- an append to the area is an append to the store
 module _ (p : Place) (r : List ℕ) (s : State) (t u : Trail) (is : p ≡ s.area) (here : p.base ≡ journal_at s.slot) (long : length t.now.bytes ≡ 1118720) where
   end : p.end ≡ s.area.end
   end = ap (λ (q : Place). q.end) is
@@ -122,7 +122,7 @@ module _ (p : Place) (r : List ℕ) (s : State) (t u : Trail) (is : p ≡ s.area
     calls = appends.calls;
   }
 
--- what an opening reads is a content
+-- an image is framed with the content that an opening reads
 pub framed_all : (b : List ℕ) (len : ℕ) (slot : Slot) (generation : ℕ) (other_open : Bool) (p : Place) (rs : List (List ℕ)) → length b ≡ 1118720
     → (slice_index b 0 ≡ 165) × (len ≤ 65536) × (slice_range b 1 15 ≡ header_bytes len)
     → IsInUse slot b × (generation_of slot b ≡ generation) × (IsOpen (other slot) b ↔ IsTrue other_open)
@@ -144,15 +144,15 @@ framed_all b len slot generation other_open p rs long head found reads count =
       record { setup = wide; generation = refl; end = refl; count = count; slot = found.0; other_slot = found.2 },
     )
 
--- what the header says, for a length of the set-up bytes
+-- the disk's gate is open, and the header is valid and has this length of the set-up bytes
 abbrev pub Header : ℕ → List ℕ → Type 0
 Header len c = (slice_index c 0 ≡ 165) × (len ≤ 65536) × (slice_range c 1 15 ≡ header_bytes len)
 
--- the disk gate is open, and no content is framed
+-- the disk's gate is open, but the image is not framed with any content
 abbrev pub Damage : List ℕ → Type 0
 Damage b = (IsBlank b → ⊥) × ((x : Content) (j : ℕ) → IsFramed x j b → ⊥)
 
--- a wrong header, slots of which none is in use, and a damaged journal are those of no content
+-- an image with a wrong header, with no slot in use, or with a damaged journal is damaged
 pub no_header : (b : List ℕ) → (slice_index b 0 ≡ 165) × ((len : ℕ) → len ≤ 65536 → slice_range b 1 15 ≢ header_bytes len) → Damage b
 no_header b wrong = (λ blank. blank wrong.0, λ x j framed. wrong.1 (length x.setup) framed.most framed.header)
 

@@ -1,4 +1,4 @@
--- The moments while a slot is written anew: its gate is closed, it is filled, its gate is opened.
+-- The moments while a slot is rewritten: its gate is closed, it is filled, its gate is opened.
 use Rattle.std.proofs.Common.{◌≡◌, inl, inr, ℕ, ◌+◌, ◌-◌, ◌≤◌, Bool, List, [], ◌∷◌, length, sym, ◌∙◌, ap, subst, arith, Result, Ok, Err}
 use Rattle.std.specs.Prelude.{slice_index}
 use Rattle.zh_disk.specs.Disk.{Moment, Trail, IsImage, SameOutside, Moves, Leaves, Lands, Changes, splice, settled}
@@ -13,12 +13,12 @@ use Rattle.zh_snapshot.specs.Slots.{Closes, IsClosed, HasNew, Refills, IsRefille
 use Rattle.zh_snapshot.proofs.RangeLemmas.{same_trans, same_wider, slice_kept}
 use Rattle.zh_snapshot.proofs.SlotLemmas.{bounds, generation_kept}
 
--- a slot is written anew
+-- a slot is rewritten
 abbrev pub RefillsSlot : {T : Type 0} → Slot → Bool → ℕ → List ℕ → Result T DiskFault → Trail → Trail → Type 0
 RefillsSlot slot is_open generation payload =
     Changes (Refills slot is_open generation payload) (Lands (IsRefilled slot generation payload))
 
--- what was written after the gate, when the gate alone has changed since
+-- what was written after the gate is still there if only the gate has changed since
 new_kept : (slot : Slot) (generation : ℕ) (payload d c : List ℕ) → length d ≡ 1118720 → SameOutside (slot_at slot) 1 d c → HasNew slot generation payload d → HasNew slot generation payload c
 new_kept slot generation payload d c long by new = record {
   generation_is = generation_kept slot d c long by ∙ new.generation_is;
@@ -26,7 +26,7 @@ new_kept slot generation payload d c long by new = record {
   journal = λ k from to. by.same k (inr (omega (arith, from))) ∙ new.journal k from to;
 }
 
--- only one content is left where a read gives it and nothing is pending
+-- if nothing is pending, the only image is what a read gives
 only_image : (m : Moment) (b c : List ℕ) → m ≡ settled b → IsImage m c → c ≡ b
 only_image m b c is image = synced_image (settled b) c (subst (λ (x : Moment). IsImage x c) is image)
 
@@ -57,7 +57,7 @@ module _ (slot : Slot) (is_open : Bool) (generation : ℕ) (payload : List ℕ) 
           },
         ))
 
-    -- an image from the start, of which this one differs in the slot alone
+    -- an image from the start that differs from this one only in the slot
     origin : (x : List ℕ) → IsImage t2.now x → (d : List ℕ) × IsImage t0.now d × SameOutside (slot_at slot) 524544 d x
     origin x image =
         let y = leaves_now (SameOutside (generation_at slot) 524543) t1 t2 (same_refl (generation_at slot) 524543) second x image in
@@ -97,7 +97,7 @@ module _ (slot : Slot) (is_open : Bool) (generation : ℕ) (payload : List ℕ) 
             },
           )
 
--- A slot written anew: one that failed at its gate, at what stands after it, at the gate again, and one that succeeded.
+-- Rewriting a slot: it failed at closing the gate, at what comes after it, or at opening the gate, or it succeeded.
 module _ {T : Type 0} (slot : Slot) (is_open : Bool) (generation : ℕ) (payload : List ℕ) (t0 t1 : Trail) (long : length t0.now.bytes ≡ 1118720) where
   pub refill_closing : (d : DiskFault) → ClosesSlot slot is_open (Err d) t0 t1 → RefillsSlot {T = T} slot is_open generation payload (Err d) t0 t1
   refill_closing d closes = record { moments = at_closing slot is_open generation payload t0 t1 long closes.moments; done = tt }

@@ -1,4 +1,4 @@
--- What a switch makes of an image that fits.
+-- What becomes of an image that fits in a switch.
 use Rattle.std.proofs.Common.{◌≡◌, ◌⊎◌, inl, inr, ⊎_elim, ℕ, ◌+◌, ◌*◌, ◌<◌, ◌≤◌, Bool, List, [], length, refl, sym, ◌∙◌, ap, subst, arith, Ok, Err}
 use Rattle.std.specs.Prelude.{slice_index, slice_range}
 use Rattle.std.proofs.lemmas.Bool.{cases_eq}
@@ -20,7 +20,7 @@ use Rattle.zh_snapshot.proofs.RangeLemmas.{slice_kept}
 use Rattle.zh_snapshot.proofs.RefillLemmas.{RefillsSlot}
 use Rattle.zh_snapshot.proofs.SlotLemmas.{bounds, apart, other_other, head_kept, held, closed_there}
 
--- writes in the other slot alone
+-- only the other slot changes
 module _ (slot : Slot) (d c : List ℕ) (long : length d ≡ 1118720) (by : SameOutside (slot_at (other slot)) 524544 d c) (used : IsInUse slot d) where
   low : slot_at First ≤ slot_at (other slot)
   low = (bounds (other slot)).0
@@ -44,7 +44,7 @@ module _ (slot : Slot) (d c : List ℕ) (long : length d ≡ 1118720) (by : Same
   mine : (slice_index c (slot_at slot) ≡ slice_index d (slot_at slot)) × (generation_of slot c ≡ generation_of slot d)
   mine = head_kept slot (slot_at (other slot)) 524544 d c long by (⊎_elim (λ before. inl (omega (arith, before))) (λ after. inr after) out)
 
-  -- which stays the older one
+  -- the other slot stays the older one
   module _ (older : IsOpen (other slot) c → generation_of (other slot) c < generation_of slot d) where
     pub still_used : IsInUse slot c
     still_used = record { gate = mine.0 ∙ used.gate; newer = λ is. omega (arith, mine.1, older is) }
@@ -73,7 +73,7 @@ module _ (slot : Slot) (d c : List ℕ) (long : length d ≡ 1118720) (by : Same
       closed = λ k from to. λ is. closed_there slot x j d used clean k from to (sym (inside (journal_at slot + 256 * k) (omega arith) (omega (arith, to))) ∙ is);
     }
 
-  -- which is written anew, one generation later, and its gate opened
+  -- the other slot is rewritten, one generation later, and its gate is opened
   module _ (payload : List ℕ) (is_open : IsOpen (other slot) c) (new : HasNew (other slot) (generation_of slot d + 1) payload c) where
     pub new_used : IsInUse (other slot) c
     new_used = record {
@@ -114,7 +114,7 @@ module _ (slot : Slot) (d c : List ℕ) (long : length d ≡ 1118720) (by : Same
 generation_fits : (s : State) (x : Content) (j : ℕ) (d : List ℕ) → Fits s x j d → IsFramed x j d → generation_of s.slot d ≡ s.generation
 generation_fits s x j d fits framed = (held s.slot x j d fits.slot framed).generation ∙ fits.generation
 
--- the two things that an image comes to be while the other slot is written anew
+-- the two things that can become of an image while the other slot is rewritten
 module _ (s : State) (payload d c : List ℕ) (long : length d ≡ 1118720) (by : Refills (other s.slot) s.other_open (s.generation + 1) payload d c) where
   case : {Stays : Type 0} (x : Content) (j : ℕ) → IsFramed x j d → Fits s x j d
       → ((IsOpen (other s.slot) c → generation_of (other s.slot) c < generation_of s.slot d) → Stays) → Stays ⊎ IsClean (with_snapshot x payload) 0 c
@@ -148,7 +148,7 @@ switches s payload d c long by = λ x j framed fits.
       },
     )
 
--- the moments of a switch, by what the store knew before
+-- the moments of a switch, if the store knew the slots and the generation
 module _ (s : State) (slot : Slot) (other_open : Bool) (generation : ℕ) (payload : List ℕ) (t u : Trail)
     (to : slot ≡ other s.slot) (known : other_open ≡ s.other_open) (next : generation ≡ s.generation + 1) where
   pub switch_moments : length t.now.bytes ≡ 1118720 → Leaves (Refills slot other_open generation payload) t u → Leaves (StoreSwitchesOrNot s payload) t u

@@ -1,9 +1,9 @@
-//! Why a call of a store is refused.
+//! The errors of the calls of a store.
 use std::alloc::AllocError;
 use thiserror::Error;
 use zh_disk::DiskFault;
 
-/// Why a disk was not formatted.
+/// Why a disk could not be formatted.
 #[derive(Clone, Copy, Debug, PartialEq, Eq, Error)]
 pub enum FormatFault {
     #[error("out of memory")]
@@ -34,15 +34,15 @@ impl From<DiskFault> for FormatFault {
     }
 }
 
-/// Why a store was not opened.
+/// Why a store could not be opened.
 #[derive(Clone, Copy, Debug, PartialEq, Eq, Error)]
 pub enum OpenFault {
     #[error("the device failed")]
     Device,
-    /// The disk gate is closed.
+    /// The disk's gate is closed.
     #[error("the disk is blank")]
     Blank,
-    /// The disk gate is open, and what comes after it breaks a rule of the format.
+    /// The disk's gate is open, but what comes after it breaks a rule of the format.
     #[error("the disk is damaged")]
     Damaged,
     #[error("out of memory")]
@@ -84,10 +84,10 @@ impl From<zh_journal::OpenFault> for OpenFault {
     }
 }
 
-/// Why a store was not read.
+/// Why a store could not be read.
 pub type StoreFault = DiskFault;
 
-/// Why a record was not appended.
+/// Why a record could not be appended.
 #[derive(Clone, Copy, Debug, PartialEq, Eq, Error)]
 pub enum AppendFault {
     #[error("the device failed")]
@@ -95,20 +95,20 @@ pub enum AppendFault {
     /// Too few pages are left.
     #[error("the journal is full")]
     Full,
-    /// The device failed in an earlier call that writes, so the store has to be opened again.
+    /// The device failed in an earlier call that writes, so the store must be opened again.
     #[error("the store is broken")]
     Broken,
 }
 
-/// Why a store did not switch slots.
+/// Why a store could not switch slots.
 #[derive(Clone, Copy, Debug, PartialEq, Eq, Error)]
 pub enum SwitchFault {
     #[error("the device failed")]
     Device,
-    /// The generation is the last one.
+    /// The generation is the last one, 2^64 - 1.
     #[error("the generations are spent")]
     Spent,
-    /// The device failed in an earlier call that writes, so the store has to be opened again.
+    /// The device failed in an earlier call that writes, so the store must be opened again.
     #[error("the store is broken")]
     Broken,
 }

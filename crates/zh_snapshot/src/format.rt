@@ -13,7 +13,7 @@ use std::alloc::Global;
 use zh_disk::{Disk, DiskFault};
 use zh_journal::{AREA_LENGTH, Area, OPEN_GATE, open_gate};
 
-/// Closes the disk gate, where it is open.
+/// Syncs the disk and closes its gate if that is open.
 fn close_disk<D: Disk>(disk: &mut D) -> Result<(), DiskFault>
     ensures call { Call is_err ClosesDisk (D.history disk.old) (D.history disk.new) result }
 {
@@ -41,7 +41,7 @@ fn write_parts<D: Disk>(disk: &mut D, setup: &[u8], first: &[u8]) -> Result<(), 
     disk.write_at(Slot::First.snapshot(), first)
 }
 
-/// Writes zeros over the first slot's journal, and over the second slot's head.
+/// Writes zeros over the first slot's journal and the second slot's head.
 fn empty_slots<D: Disk>(disk: &mut D, zeros: &[u8]) -> Result<(), DiskFault>
     requires size { length zeros.now ≡ AREA_LENGTH }
     requires zero { (k : ℕ) → slice_index zeros.now k ≡ 0 }
@@ -54,7 +54,7 @@ fn empty_slots<D: Disk>(disk: &mut D, zeros: &[u8]) -> Result<(), DiskFault>
 }
 
 impl Store {
-    /// Writes a store with these set-up bytes, this snapshot and no records over a disk, whatever stands there.
+    /// Formats a disk, whatever it holds, as a store with these set-up bytes, this snapshot and no records.
     pub fn format<D: Disk>(
         alloc: Global,
         disk: &mut D,

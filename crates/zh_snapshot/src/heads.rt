@@ -1,4 +1,4 @@
-//! What stands at the heads of a disk and of a slot.
+//! Reading the heads of a disk and of its slots.
 ghost use Rattle.std.specs.Prelude.{◌≢◌, ◌≤◌, ℕ, List, Some, IfOk, is_err};
 ghost use Rattle.zh_disk.specs.Disk.{Asks};
 ghost use Rattle.zh_disk.specs.History.{Call};
@@ -13,7 +13,7 @@ use crate::layout::{Slot, setup_length};
 use zh_disk::{Disk, DiskFault};
 use zh_journal::OPEN_GATE;
 
-/// The length of the set-up bytes.
+/// Reads the disk's gate and header. Returns the length of the set-up bytes.
 pub(crate) fn open_header<D: Disk>(disk: &mut D) -> Result<u32, OpenFault>
     ensures call { Call store_open_fails (Asks FindsHeader) (D.history disk.old) (D.history disk.new) result }
     ensures most { IfOk result (λ len. len ≤ SETUP_LIMIT) }
@@ -30,7 +30,7 @@ pub(crate) fn open_header<D: Disk>(disk: &mut D) -> Result<u32, OpenFault>
     Ok(len)
 }
 
-/// The generation of a slot, where its gate is open.
+/// Reads the generation of a slot. `None` if its gate is closed.
 fn read_head<D: Disk>(disk: &mut D, slot: Slot) -> Result<Option<u64>, DiskFault>
     ensures call { Call is_err (Asks (λ bytes answer. IfOk answer (λ found. HasHead slot found bytes)))
         (D.history disk.old) (D.history disk.new) result }
@@ -53,7 +53,7 @@ pub(crate) struct InUse {
     pub(crate) other_open: bool,
 }
 
-/// Of two slots with open gates the one with the greater generation.
+/// The slot in use if both gates are open: the one with the greater generation. `None` if the generations are equal.
 fn newer(first: u64, second: u64) -> Option<InUse>
     ensures { (c : List ℕ) → HasHead First (Some first) c → HasHead Second (Some second) c → IsFound result c }
 {
@@ -71,7 +71,7 @@ fn newer(first: u64, second: u64) -> Option<InUse>
     })
 }
 
-/// The one with an open gate, and of two the newer.
+/// The slot in use: the one with an open gate or, if both are open, the newer one. `None` if there is no such slot.
 fn in_use(first: Option<u64>, second: Option<u64>) -> Option<InUse>
     ensures { (c : List ℕ) → HasHead First first c → HasHead Second second c → IsFound result c }
 {
@@ -88,7 +88,7 @@ fn in_use(first: Option<u64>, second: Option<u64>) -> Option<InUse>
     })
 }
 
-/// The slot in use, where there is one.
+/// Finds the slot in use. `None` if there is none.
 pub(crate) fn find_slot<D: Disk>(disk: &mut D) -> Result<Option<InUse>, DiskFault>
     ensures call { Call is_err (Asks (λ bytes answer. IfOk answer (λ found. IsFound found bytes)))
         (D.history disk.old) (D.history disk.new) result }

@@ -1,6 +1,6 @@
 //! A snapshot and the records since, in a slot of a disk, with the set-up bytes beside them.
 //!
-//! docs/FORMATS.md has the places of the disk, and the device calls of each call here.
+//! docs/FORMATS.md describes the layout of the disk, and which disk calls each call here makes.
 #![tactic(auto)]
 
 mod fault;

@@ -1,4 +1,4 @@
-//! Writing the shadow slot anew: its gate, the commit byte, is closed first and opened last.
+//! Rewriting the shadow slot: its gate, the commit byte, is closed first and opened last.
 ghost use Rattle.std.specs.Prelude.{◌≡◌, ℕ, length, slice_index, IfOk, is_err};
 ghost use Rattle.zh_disk.specs.Disk.{Changes, Lands};
 ghost use Rattle.zh_disk.specs.History.{Call};
@@ -12,7 +12,7 @@ use std::alloc::{AllocError, Global};
 use zh_disk::{Disk, DiskFault};
 use zh_journal::{AREA_LENGTH, Area, open_gate};
 
-/// Closes the slot's gate, where it is open.
+/// Closes the slot's gate if `is_open` says that it is open.
 fn close_slot<D: Disk>(disk: &mut D, slot: Slot, is_open: bool) -> Result<(), DiskFault>
     ensures call { Call is_err (ClosesSlot slot is_open) (D.history disk.old) (D.history disk.new) result }
 {
@@ -23,7 +23,7 @@ fn close_slot<D: Disk>(disk: &mut D, slot: Slot, is_open: bool) -> Result<(), Di
     Ok(())
 }
 
-/// Writes what stands after the slot's gate: the generation, the snapshot, and a journal without records.
+/// Writes everything after the slot's gate: the generation, the snapshot, and a journal without records.
 fn fill_slot<D: Disk>(
     disk: &mut D,
     slot: Slot,
@@ -44,7 +44,7 @@ fn fill_slot<D: Disk>(
     Area::clear(disk, slot.journal(), zeros)
 }
 
-/// Writes a slot anew under its closed gate, which is opened at the end. The caller says whether it is open before.
+/// Rewrites a slot while its gate is closed, and opens the gate at the end. `is_open` says whether it is open before.
 pub(crate) fn refill<D: Disk>(
     disk: &mut D,
     slot: Slot,
@@ -68,7 +68,7 @@ pub(crate) fn refill<D: Disk>(
     Ok(area)
 }
 
-/// n zeros
+/// A vector of `n` zeros.
 pub(crate) fn zeros(alloc: Global, n: usize) -> Result<Vec<u8>, AllocError>
     ensures len { IfOk result (λ v. length v.items ≡ n) }
     ensures zero { IfOk result (λ v. (k : ℕ) → slice_index v.items k ≡ 0) }

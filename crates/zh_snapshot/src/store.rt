@@ -1,4 +1,4 @@
-//! A store: the set-up bytes, a snapshot, and its write-ahead log of the records since, in one of two shadow slots.
+//! A store: the set-up bytes and, in one of two shadow slots, a snapshot with the write-ahead log of the records after it.
 ghost use Rattle.std.specs.Prelude.{◌≡◌, ◌≢◌, ◌<◌, ◌≤◌, ◌↔◌, ℕ, true, false, length, slice_get, slice_index, Some, IfOk, OnOk, IsErrOf};
 ghost use Rattle.std.specs.Prelude.{is_err, ◌+◌, slice_range, IsTrue};
 ghost use Rattle.zh_disk.specs.Disk.{Asks};
@@ -23,10 +23,10 @@ use zh_journal::{AREA_LENGTH, Area, LONGEST_PAYLOAD, Reader};
 
 mod switch;
 
-/// A disk's snapshot and records, as they were found or written.
+/// What is known of a disk: the slot in use with its generation, where its records end, and the length of the set-up bytes.
 ///
-/// The disk is handed to each call, and must be the one that the store was opened on. After a fault of the
-/// device in a call that writes, the store is broken until it is opened again.
+/// The disk is passed to each call and must be the one on which the store was opened. After a device fault in a call that
+/// writes, the store is broken and must be opened again.
 #[derive(Drop)]
 pub struct Store {
     setup_length: u32,
@@ -36,7 +36,7 @@ pub struct Store {
     other_open: bool,
     area: Area,
     broken: bool,
-    // those that clear an area
+    // the zeros that clear a journal area
     zeros: Vec<u8>,
 }
 
@@ -63,8 +63,8 @@ impl Model for Store {
 }
 
 impl Store {
-    /// Finds what stands on the disk, and gives the records in order: a sync, then reads alone. Memory is taken before
-    /// the first of them, and the journal is read once.
+    /// Opens the store on a disk. Returns it with a reader, which goes through its records in order. Takes memory, then syncs
+    /// the disk, and after that only reads. The journal is read once.
     pub fn open<D: Disk>(alloc: Global, disk: &mut D) -> Result<(Store, Reader), OpenFault>
         ensures call { Call store_open_fails OpensStore (D.history disk.old) (D.history disk.new) result }
         ensures whole { IfOk result (λ opened. opened.0.broken ≡ false) }
@@ -76,7 +76,7 @@ impl Store {
         Store::read(disk, zeros, pages)
     }
 
-    /// What stands on the disk, by reads alone.
+    /// Opens the store on a disk, with reads only.
     fn read<D: Disk>(
         disk: &mut D,
         zeros: Vec<u8>,
@@ -107,7 +107,7 @@ impl Store {
         Ok((store, reader))
     }
 
-    /// Whether the disk's set-up bytes are these.
+    /// Whether these are the disk's set-up bytes.
     pub fn setup_equals<D: Disk>(&self, disk: &mut D, setup: &[u8]) -> Result<bool, StoreFault>
         ensures call { Call is_err (Asks (ComparesSetup self.now.setup_length setup.now))
             (D.history disk.old) (D.history disk.new) result }
@@ -118,7 +118,7 @@ impl Store {
         stand_at(disk, SETUP, setup)
     }
 
-    /// Lends the snapshot from the caller's buffer.
+    /// Reads the snapshot into the caller's buffer and returns that part of it.
     pub fn snapshot<'b, D: Disk>(
         &self,
         disk: &mut D,
@@ -134,7 +134,8 @@ impl Store {
         lend(disk, self.slot.snapshot(), SNAPSHOT_LENGTH, buffer)
     }
 
-    /// Lends the payload of record `i`, counted from 0, from the caller's buffer, as `Area::record` does.
+    /// Reads the payload of record `i`, counted from 0, into the caller's buffer and returns that part of it, as
+    /// `Area::record` does.
     pub fn record<'b, D: Disk>(
         &self,
         disk: &mut D,
@@ -153,7 +154,7 @@ impl Store {
         self.area.record(disk, i, buffer)
     }
 
-    /// Whether a call that writes met a fault of the device, so that the store must be opened again.
+    /// Whether a call that writes met a device fault, so that the store must be opened again.
     pub fn is_broken(&self) -> bool
         ensures { result ≡ self.now.broken }
     {
@@ -174,14 +175,14 @@ impl Store {
         self.area.pages_left()
     }
 
-    /// The generation of the snapshot, which counts the switches from one slot to the other.
+    /// The generation of the snapshot. Formatting begins at 1, and each switch adds 1.
     pub fn generation(&self) -> u64
         ensures { result ≡ self.now.generation }
     {
         self.generation
     }
 
-    /// Writes a record after the last one, as `Area::append` does.
+    /// Appends a record, as `Area::append` does.
     pub fn append<D: Disk>(&mut self, disk: &mut D, payload: &[u8]) -> Result<(), AppendFault>
         requires some { 1 ≤ length payload.now }
         requires most { length payload.now ≤ LONGEST_PAYLOAD }
@@ -210,7 +211,7 @@ impl Store {
     }
 }
 
-/// Whether these bytes stand from this place on.
+/// Whether the disk contains these bytes from this place on.
 pub(crate) fn stand_at<D: Disk>(disk: &mut D, at: u64, bytes: &[u8]) -> Result<bool, DiskFault>
     requires { at + length bytes.now ≤ DISK_LENGTH }
 
@@ -231,7 +232,7 @@ pub(crate) fn stand_at<D: Disk>(disk: &mut D, at: u64, bytes: &[u8]) -> Result<b
     Ok(true)
 }
 
-/// Lends the n bytes from this place on from the caller's buffer.
+/// Reads the `n` bytes from this place on into the caller's buffer and returns that part of it.
 pub(crate) fn lend<'b, D: Disk>(
     disk: &mut D,
     at: u64,

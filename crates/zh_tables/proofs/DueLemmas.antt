@@ -5,7 +5,7 @@ use Rattle.zh_text.specs.Each.{each_to}
 use Rattle.zh_text.proofs.CallerLemmas.{each_to_next}
 use Rattle.zh_tables.specs.Returns.{due_of}
 
--- a sum so far, and what the next number adds to it
+-- the sum so far, and what the next number adds to it
 pub length_next : {A : Type 0} (f : ℕ → List A) (n so_far more : ℕ) → so_far ≡ length (each_to n f) → more ≡ length (f (n + 1)) → so_far + more ≡ length (each_to (n + 1) f)
 length_next f n so_far more is adds =
     (λ i. is i + adds i) ∙ (sym (length-append (each_to n f) (f (n + 1))) ∙ ap length (each_to_next f n))
@@ -17,7 +17,7 @@ one_due canton m list stands_there = rw stands_there refl
 pub none_due : (canton : Canton) (m list : ℕ) → stands canton (constituency_of canton m) list ≡ false → 0 ≡ length (due_of canton m list)
 none_due canton m list stands_not = rw stands_not refl
 
--- where it adds nothing
+-- the next number adds nothing
 pub length_more : {A : Type 0} (f : ℕ → List A) (n so_far : ℕ) → so_far ≡ length (each_to n f) → 0 ≡ length (f (n + 1)) → so_far ≡ length (each_to (n + 1) f)
 length_more f n so_far is none =
     let same : so_far ≡ so_far + 0 = omega arith in

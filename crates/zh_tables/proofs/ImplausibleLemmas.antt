@@ -1,4 +1,4 @@
--- The row of a municipality that outweighs others, or none, and its name.
+-- The record of a municipality that outweighs others, or none, and the municipality's name.
 use Rattle.std.proofs.Common.{◌≡◌, ◌*◌, ℕ, true, false, List, [], Option, Some, None, option_map, refl, sym, ◌∙◌}
 use Rattle.std.specs.Option.{option_map_or}
 use Rattle.zh_returns.specs.Tally.{Tally}

@@ -1,4 +1,4 @@
--- What is told of each constituency, one after the other.
+-- The marks of each constituency, one after another.
 use Rattle.std.proofs.Common.{◌≡◌, ◌∙◌, ◌+◌, ◌<◌, ◌≤◌, ℕ, List, [], ◌∷◌, ◌++◌, Bool, true, false, IsTrue, length, ⊎_elim, refl, sym, ap, subst, arith}
 use Rattle.std.specs.Prelude.{◌↔◌, slice_index_or}
 use Rattle.std.proofs.lemmas.Bool.{cases_lt}
@@ -26,10 +26,10 @@ told_next Holds n marks b told here = record {
       (cases_lt k n);
 }
 
--- a municipality lies there
+-- a municipality is in the constituency
 pub has_municipality : (canton : Canton) (d m : ℕ) → 1 ≤ m → m ≤ length canton.municipalities → constituency_of canton m ≡ d → IsTrue false ↔ LacksMunicipality canton d
 has_municipality canton d m from there is = (λ wrong. absurd cc, λ lacks. absurd (lacks m from there is))
 
--- a list stands there
+-- a list stands in the constituency
 pub has_list : (canton : Canton) (d g : ℕ) → 1 ≤ g → g ≤ length canton.groups → stands canton d g ≡ true → IsTrue false ↔ LacksList canton d
 has_list canton d g from there is = (λ wrong. absurd cc, λ lacks. let no : false ≡ true = sym (lacks g from there) ∙ is in absurd cc)

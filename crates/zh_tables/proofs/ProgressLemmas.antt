@@ -1,4 +1,4 @@
--- How far the returns have come in, one number more each time.
+-- How many returns are in, with one municipality or one list more each time.
 use Rattle.std.proofs.Common.{◌≡◌, ◌≤◌, ◌+◌, ℕ, Bool, true, false, List, [], ◌∷◌, ◌++◌, filter, Option, Some, None, IfSome, unwrap_or, count_by, sum_by, refl, sym, ap, ◌∙◌, arith, length-append}
 use Rattle.std.specs.List.{range_with_len}
 use Rattle.std.proofs.lemmas.List.{append-nil, map-id}
@@ -37,7 +37,7 @@ over_push tally ms m =
     let closed = sum_by_push (λ k. (progress_of tally k).closed) ms m in
     λ i. record { held = held i; due = due i; missing = missing i; votes = votes i; municipalities = municipalities i; begun = begun i; closed = closed i }
 
--- the next municipality is one of them, or not
+-- the next municipality is in the region, or is not
 pub over_next : (tally : Tally) (p : ℕ → Bool) (n : ℕ) (old : Progress) → old ≡ progress_over tally (filter p (range_with_len 1 n)) → p (n + 1) ≡ true
     → both old (progress_of tally (n + 1)) ≡ progress_over tally (filter p (range_with_len 1 (n + 1)))
 over_next tally p n old is one =
@@ -74,7 +74,7 @@ few_more n k a few more = record {
   closed = omega (arith, few.closed);
 }
 
--- a count so far, and what the next number adds to it
+-- the count so far, and what the next number adds to it
 pub count_step : (p : ℕ → Bool) (n a b : ℕ) → a ≡ count_by p (range_with_len 1 n) → b ≡ one_if (p (n + 1)) → a + b ≡ count_by p (range_with_len 1 (n + 1))
 count_step p n a b is adds = (λ i. is i + adds i) ∙ sym (count_next p n)
 

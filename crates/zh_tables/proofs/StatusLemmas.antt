@@ -1,4 +1,4 @@
--- The text of a view, from that of its table.
+-- The text of a view, from the text of its table.
 use Rattle.std.proofs.Common.{List, ℕ, ◌++◌, Result, IfOk, Option, refl}
 use Rattle.std.proofs.lemmas.Result.{IfOk-weaker}
 use Rattle.std.specs.Io.KnownBytes.{Appends}

@@ -1,4 +1,4 @@
--- The text of a table: the names of its columns, and then its lines.
+-- The text of a table: the names of its columns, then its rows.
 use Rattle.std.proofs.Common.{ℕ, List, ◌++◌, Option, refl}
 use Rattle.std.specs.Io.KnownBytes.{Appends}
 use Rattle.zh_districts.specs.Canton.{Canton}

@@ -1,4 +1,4 @@
--- Why a table is not written to its end, as reports spell it.
+-- The names in reports of why a table was not written in full.
 use Rattle.std.specs.Prelude.{ℕ, List, ◌++◌, codes, decimal}
 use Rattle.zh_districts.specs.SeatNames.{seats_name}
 use Rattle.zh_tables.specs.declared.fault.ListFault.{ListFault}

@@ -1,5 +1,5 @@
--- Votes that are hardly true: of a return, more than the persons of its constituency can give; of a municipality, more than ten
--- times those of all others of its constituency together.
+-- Implausible votes: of a return, more than the persons of the constituency can give; of a municipality, more than ten times those of all
+-- other municipalities of its constituency together.
 use Rattle.std.specs.Prelude.{◌≡◌, ◌≤◌, ℕ, ◌-◌, ◌*◌, ◌==◌, ◌&&◌, nat_lt, if◌then◌else◌, Bool, List, [], ◌∷◌, ◌++◌, length, slice_index}
 use Rattle.std.specs.Prelude.{Result, Ok, Err, codes, decimal}
 use Rattle.zh_divisors.specs.Shares.{Apportionment}
@@ -24,7 +24,7 @@ AreFound canton (Ok shares) = HasSeats canton shares.seats
 AreFound canton (Err refusals.Memory) = ⊥
 AreFound canton (Err refusal) = RefusesTable canton Constituencies (Seats refusal)
 
--- there are seats for each constituency, and this municipality
+-- each constituency has its seats, and this municipality exists
 abbrev pub IsSeated : Canton → List ℕ → ℕ → Type 0
 IsSeated canton seats m =
     (length seats ≡ length canton.constituencies) × (1 ≤ m) × (m ≤ length canton.municipalities)
@@ -33,52 +33,52 @@ IsSeated canton seats m =
 abbrev pub most_in : Canton → List ℕ → ℕ → ℕ
 most_in canton seats d = persons_of canton d * slice_index seats (d - 1)
 
--- whether the return of a list has more
+-- whether the return of a list has more votes than that
 abbrev pub exceeds : Tally → List ℕ → ℕ → ℕ → Bool
 exceeds tally seats m list =
     nat_lt (most_in tally.canton seats (constituency_of tally.canton m)) (entry_votes (held tally m list))
 
--- whether votes are more than ten times those of others, of which there are some, each with returns
+-- whether votes are more than ten times those of the others; there must be others, and each must have a return
 abbrev pub outweighs : ℕ → Progress → Bool
 outweighs votes others =
     nat_lt 0 others.municipalities && (others.begun == others.municipalities) && nat_lt (10 * others.votes) votes
 
--- the other municipalities of a municipality's constituency, together
+-- the other municipalities of a municipality's constituency, taken together
 abbrev pub neighbours : Tally → ℕ → Progress
 neighbours tally m = progress_over tally (within tally.canton (Others (constituency_of tally.canton m) m))
 
--- the line of a list in a municipality, or of all its lists, with its votes and what these are more than
+-- the record of a list in a municipality, or of all its lists together, with the votes and the limit that they exceed
 abbrev pub implausible_row : ℕ → List ℕ → ℕ → ℕ → List ℕ → List ℕ → List ℕ
 implausible_row m list votes limit name list_name =
     record_text (decimal m ∷ list ∷ decimal votes ∷ decimal limit ∷ name ∷ list_name ∷ [])
 
--- the line of a return that has more votes than there can be
+-- the record of a return with more votes than a list can have there
 abbrev pub exceeding_row : Tally → List ℕ → ℕ → ℕ → List ℕ
 exceeding_row tally seats m list =
     if exceeds tally seats m list then implausible_row m (decimal list) (entry_votes (held tally m list))
     (most_in tally.canton seats (constituency_of tally.canton m)) (name_of_municipality tally.canton m) (name_of_group tally.canton list)
     else []
 
--- those of a municipality, list by list; where the constituencies get no seats there are none
+-- these records of a municipality, list by list; none if the constituencies get no seats
 abbrev pub exceeding_in : Tally → Result Apportionment SeatFault → ℕ → List ℕ
 exceeding_in tally (Ok shares) m = each_to (length tally.canton.groups) (exceeding_row tally shares.seats m)
 exceeding_in tally (Err refusal) m = []
 
--- the line of a municipality that outweighs the others; with any votes it has returns itself
+-- the record of a municipality that outweighs the others; it then has votes, so it has returns itself
 abbrev pub outweighing_row : Tally → ℕ → List ℕ
 outweighing_row tally m =
     if outweighs (progress_of tally m).votes (neighbours tally m) then implausible_row m [] (progress_of tally m).votes
     (10 * (neighbours tally m).votes) (name_of_municipality tally.canton m) []
     else []
 
--- both kinds, municipality by municipality
+-- the records of both kinds, by municipality
 abbrev pub implausible_in : Tally → Result Apportionment SeatFault → ℕ → List ℕ
 implausible_in tally found m = exceeding_in tally found m ++ outweighing_row tally m
 
 abbrev pub implausible_rows : Tally → Result Apportionment SeatFault → List ℕ
 implausible_rows tally found = each_to (length tally.canton.municipalities) (implausible_in tally found)
 
--- why votes are not compared with persons, in a line with its LF, which is 10
+-- a line that says why votes are not compared with persons; 10 is LF
 abbrev pub found_note : Result Apportionment SeatFault → List ℕ
 found_note (Ok shares) = []
 found_note (Err refusal) = seats_name refusal ++ codes ": votes are not compared with persons" ++ 10 ∷ []

@@ -1,4 +1,4 @@
--- How far the returns have come in: what is due is one return of each list that stands, in each municipality.
+-- How many returns are in. In each municipality one return is due for each list that stands there.
 use Rattle.std.specs.Prelude.{ℕ, ◌+◌, ◌*◌, ◌≤◌, ◌==◌, ◌&&◌, nat_lt, not, Bool, true, if◌then◌else◌, List, length, filter}
 use Rattle.std.specs.Prelude.{Option, Some, None, is_some, unwrap_or, count_by, sum_by}
 use Rattle.std.specs.List.{range_with_len}
@@ -14,27 +14,27 @@ use Rattle.zh_tables.specs.declared.progress.Region.TheVariants.{Whole, Constitu
 abbrev pub one_if : Bool → ℕ
 one_if holds = if holds then 1 else 0
 
--- the votes of what is held, if anything is; a list that is withdrawn has none
+-- the votes of an entry; a withdrawn list, or no entry, has none
 abbrev pub entry_votes : Option Entry → ℕ
 entry_votes None = 0
 entry_votes (Some entry) = unwrap_or entry.votes 0
 
--- the numbers of the lists, and those of the municipalities
+-- the numbers of the lists, and of the municipalities
 abbrev pub lists : Canton → List ℕ
 lists canton = range_with_len 1 (length canton.groups)
 
 abbrev pub municipalities : Canton → List ℕ
 municipalities canton = range_with_len 1 (length canton.municipalities)
 
--- whether a return is due and not there
+-- whether a return is due and not held
 abbrev pub is_missing : Tally → ℕ → ℕ → Bool
 is_missing tally m list = stands tally.canton (constituency_of tally.canton m) list && not (is_some (held tally m list))
 
--- how many returns of a municipality are there: where anything is held, a withdrawn list too
+-- how many returns of a municipality are held; a withdrawal counts too
 abbrev pub held_in : Tally → ℕ → ℕ
 held_in tally m = count_by (λ list. is_some (held tally m list)) (lists tally.canton)
 
--- how far a municipality is
+-- how many returns are in from a municipality
 abbrev pub progress_of : Tally → ℕ → Progress
 progress_of tally m = record {
   held = held_in tally m;
@@ -46,7 +46,7 @@ progress_of tally m = record {
   closed = one_if (set.contains tally.closed m);
 }
 
--- how far these municipalities are together
+-- how many returns are in from these municipalities together
 abbrev pub progress_over : Tally → List ℕ → Progress
 progress_over tally ms = record {
   held = sum_by (λ m. (progress_of tally m).held) ms;
@@ -58,7 +58,7 @@ progress_over tally ms = record {
   closed = sum_by (λ m. (progress_of tally m).closed) ms;
 }
 
--- whether a municipality lies in this region
+-- whether a municipality is in this region
 abbrev pub is_within : Canton → Region → ℕ → Bool
 is_within canton Whole m = true
 is_within canton (Constituency d) m = constituency_of canton m == d
@@ -68,7 +68,7 @@ is_within canton (Others d besides) m = (constituency_of canton m == d) && not (
 abbrev pub within : Canton → Region → List ℕ
 within canton region = filter (is_within canton region) (municipalities canton)
 
--- two together
+-- the sum of two, field by field
 abbrev pub both : Progress → Progress → Progress
 both a b = record {
   held = a.held + b.held;
@@ -80,7 +80,7 @@ both a b = record {
   closed = a.closed + b.closed;
 }
 
--- no more than so many municipalities can have
+-- the numbers are at most those that n municipalities can have
 pub record AreFew (n : ℕ) (p : Progress) : Type 0 where
   pub held : p.held ≤ 32 * n
   pub due : p.due ≤ 32 * n

@@ -1,4 +1,4 @@
--- The returns that are due: one for each list that stands in the constituency of a municipality.
+-- The returns that are due: in each municipality one for each list that stands in its constituency.
 use Rattle.std.specs.Prelude.{◌≡◌, ◌≤◌, ◌==◌, ℕ, Bool, true, false, List, [], ◌∷◌, length, nat_lt, if◌then◌else◌, codes, decimal}
 use Rattle.zh_districts.specs.Canton.{Canton, constituency_of, stands}
 use Rattle.zh_text.specs.Each.{each_to}
@@ -15,7 +15,7 @@ use Rattle.zh_tables.specs.declared.tables.Table.TheVariants.{Returns}
 abbrev pub due_of : Canton → ℕ → ℕ → List Due
 due_of canton m list = if stands canton (constituency_of canton m) list then record { municipality = m; list = list } ∷ [] else []
 
--- those of a municipality, list by list
+-- the returns that are due in a municipality, list by list
 abbrev pub returns_in : Canton → ℕ → List Due
 returns_in canton m = each_to (length canton.groups) (due_of canton m)
 
@@ -25,11 +25,11 @@ is_in canton parts.Whole m = true
 is_in canton (parts.Municipality number) m = m == number
 is_in canton (parts.Constituency d) m = constituency_of canton m == d
 
--- those of a municipality, if it is in this part
+-- the returns that are due in a municipality, if it is in this part
 abbrev pub returns_within : Canton → Part → ℕ → List Due
 returns_within canton part m = if is_in canton part m then returns_in canton m else []
 
--- those of a part of the set-up, municipality by municipality
+-- the returns that are due in a part of the set-up, by municipality
 abbrev pub returns_due : Canton → Part → List Due
 returns_due canton part = each_to (length canton.municipalities) (returns_within canton part)
 
@@ -37,11 +37,11 @@ returns_due canton part = each_to (length canton.municipalities) (returns_within
 abbrev pub return_columns : TableRecord
 return_columns = codes "municipality" ∷ codes "list" ∷ codes "number" ∷ codes "votes" ∷ []
 
--- the line of a return: number 1, and its votes to be filled in
+-- the record of a return: number 1, and an empty field for the votes
 abbrev pub return_row : Due → List ℕ
 return_row due = record_text (decimal due.municipality ∷ decimal due.list ∷ codes "1" ∷ [] ∷ [])
 
--- whether a table has more returns than one loading takes
+-- whether a table has more returns than one `load` takes
 abbrev pub exceeds_load : Canton → Table → Bool
 exceeds_load canton (Returns part) = nat_lt 1000 (length (returns_due canton part))
 exceeds_load canton table = false

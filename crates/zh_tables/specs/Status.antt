@@ -1,4 +1,4 @@
--- The texts of how far the returns have come in.
+-- The text of each view of the returns.
 use Rattle.std.specs.Prelude.{◌≡◌, ℕ, ◌==◌, List, [], ◌∷◌, ◌++◌, length, codes, decimal, if◌then◌else◌, Result}
 use Rattle.zh_divisors.specs.Shares.{Apportionment}
 use Rattle.zh_districts.specs.declared.shares.SeatFault.{SeatFault}
@@ -20,12 +20,12 @@ columns Implausible =
     codes "municipality" ∷ codes "list" ∷ codes "votes" ∷ codes "limit" ∷ codes "municipality_name" ∷ codes "list_name" ∷ []
 columns view = codes "number" ∷ codes "held" ∷ codes "due" ∷ codes "state" ∷ codes "votes" ∷ codes "name" ∷ []
 
--- whether all of the municipalities are closed, in a word; a constituency may have none
+-- the state in one word: whether all of the municipalities are closed, or there are none, as a constituency can have none
 abbrev pub state_of : Progress → List ℕ
 state_of p =
     if p.municipalities == 0 then codes "empty" else (if p.closed == p.municipalities then codes "closed" else codes "open")
 
--- the line of a municipality, or of a constituency, that has come this far
+-- the record of a municipality, or of a constituency, with this progress
 abbrev pub progress_row : ℕ → Progress → List ℕ → List ℕ
 progress_row number p name =
     record_text (decimal number ∷ decimal p.held ∷ decimal p.due ∷ state_of p ∷ decimal p.votes ∷ name ∷ [])
@@ -37,20 +37,20 @@ abbrev pub constituency_progress : Tally → ℕ → List ℕ
 constituency_progress tally d =
     progress_row d (progress_over tally (within tally.canton (Constituency d))) (name_of_constituency tally.canton d)
 
--- the line of a return that is missing
+-- the record of a return that is missing
 abbrev pub missing_row : Tally → ℕ → ℕ → List ℕ
 missing_row tally m list = if is_missing tally m list then record_text
     (decimal m ∷ decimal list ∷ name_of_municipality tally.canton m ∷ name_of_group tally.canton list ∷ []) else []
 
--- those of a municipality, list by list
+-- the records of the missing returns of a municipality, list by list
 abbrev pub missing_in : Tally → ℕ → List ℕ
 missing_in tally m = each_to (length tally.canton.groups) (missing_row tally m)
 
--- and those of all, municipality by municipality
+-- the records of all missing returns, by municipality
 abbrev pub missing_rows : Tally → List ℕ
 missing_rows tally = each_to (length tally.canton.municipalities) (missing_in tally)
 
--- the lines of a view after the names of its columns
+-- the rows of a view, without the names of its columns
 abbrev pub AreRowsOf : Tally → View → List ℕ → Type 0
 AreRowsOf tally Municipalities rows = rows ≡ each_to (length tally.canton.municipalities) (municipality_progress tally)
 AreRowsOf tally Constituencies rows = rows ≡ each_to (length tally.canton.constituencies) (constituency_progress tally)
@@ -62,11 +62,11 @@ AreRowsOf tally Implausible rows =
 abbrev pub IsStatusText : Tally → View → List ℕ → Type 0
 IsStatusText tally view text = (rows : List ℕ) × AreRowsOf tally view rows × (text ≡ record_text (columns view) ++ rows)
 
--- whether a final sheet would be of all returns
+-- whether a final sheet would be of all returns, in words
 abbrev pub would_be : Progress → List ℕ
 would_be p = if p.missing == 0 then codes "would be" else codes "would not be"
 
--- how far the whole canton is, in a line with its LF, which is 10
+-- the line about the whole canton; 10 is LF
 abbrev pub summary_of : Progress → ℕ → List ℕ
 summary_of p accepted =
     decimal p.held ++ (codes " of " ++ (decimal p.due ++ (codes " returns, " ++ (decimal p.closed ++ (codes " of "
@@ -76,7 +76,7 @@ summary_of p accepted =
 abbrev pub summary : Tally → List ℕ
 summary tally = summary_of (progress_over tally (within tally.canton Whole)) tally.accepted
 
--- what is said beside a view: the canton in a line; above it, beside implausible votes, why they are not compared with persons
+-- the lines that go with a view: the canton in one line; for implausible votes, above it, why votes are not compared with persons
 abbrev pub IsSaidOf : Tally → View → List ℕ → Type 0
 IsSaidOf tally Implausible text =
     (found : Result Apportionment SeatFault) × AreFound tally.canton found × (text ≡ found_note found ++ summary tally)

@@ -29,7 +29,7 @@ header Lists = codes "constituency" ∷ codes "list" ∷ codes "constituency_nam
 header Problems = codes "problem" ∷ codes "number" ∷ codes "name" ∷ []
 header (Returns part) = return_columns
 
--- the line of a constituency that has these seats
+-- the record of a constituency with these seats
 abbrev pub constituency_row : Canton → ℕ → ℕ → List ℕ
 constituency_row canton d seats =
     record_text (decimal d ∷ name_of_constituency canton d ∷ decimal (persons_of canton d) ∷ decimal seats ∷ [])
@@ -40,7 +40,7 @@ municipality_row canton m = record_text (decimal m ∷ name_of_municipality cant
 abbrev pub group_row : Canton → ℕ → List ℕ
 group_row canton g = record_text (decimal g ∷ name_of_group canton g ∷ [])
 
--- the line of a group's list in a constituency, if it stands there
+-- the record of a group's list in a constituency, if it stands there
 abbrev pub list_row : Canton → ℕ → ℕ → List ℕ
 list_row canton d g =
     if stands canton d g then record_text (decimal d ∷ decimal g ∷ name_of_constituency canton d ∷ name_of_group canton g ∷ []) else []
@@ -61,28 +61,28 @@ list_rows canton = each_to (length canton.constituencies) (lists_in canton)
 abbrev pub return_rows : Canton → Part → List ℕ
 return_rows canton part = flat_map return_row (returns_due canton part)
 
--- the line of this problem of a constituency, if it is marked
+-- the record of this problem of a constituency, if it is marked
 abbrev pub problem_row : Canton → List ℕ → List Bool → ℕ → List ℕ
 problem_row canton problem marks d =
     if slice_index_or marks (d - 1) false then record_text (problem ∷ decimal d ∷ name_of_constituency canton d ∷ []) else []
 
--- those of all constituencies
+-- the records of this problem, by constituency
 abbrev pub marked_rows : Canton → List ℕ → List Bool → List ℕ
 marked_rows canton problem marks = each_to (length canton.constituencies) (problem_row canton problem marks)
 
--- problem by problem
+-- the records of all problems, one problem after another
 abbrev pub problem_rows : Canton → SetupProblems → List ℕ
 problem_rows canton problems =
     marked_rows canton (codes "no municipality") problems.no_municipality.items
     ++ marked_rows canton (codes "no list") problems.no_list.items
     ++ marked_rows canton (codes "no seat") problems.no_seat.items ++ marked_rows canton (codes "tied seats") problems.tied_seats.items
 
--- the seats of the constituencies, of which each has one at least
+-- the seats of the constituencies, each of which has at least one
 pub record HasSeats (canton : Canton) (seats : List ℕ) : Type 0 where
   pub are : AreSeats canton seats
   pub each : (k : ℕ) → k < length seats → 1 ≤ slice_index seats k
 
--- the lines of a table after the names of its columns
+-- the rows of a table, without the names of its columns
 abbrev pub AreLines : Canton → Table → List ℕ → Type 0
 AreLines canton Constituencies lines = (seats : List ℕ) × HasSeats canton seats × (lines ≡ constituency_rows canton seats)
 AreLines canton Municipalities lines = lines ≡ each_to (length canton.municipalities) (municipality_row canton)
@@ -95,14 +95,14 @@ AreLines canton (Returns part) lines = HasPart canton part × (lines ≡ return_
 abbrev pub IsTableText : Canton → Table → List ℕ → Type 0
 IsTableText canton table text = (lines : List ℕ) × AreLines canton table lines × (text ≡ record_text (header table) ++ lines)
 
--- the fault of a record that is not written, as that of its table
+-- the fault of a table for that of a record
 abbrev pub RecordedAs : RecordFault → ListFault → Type 0
 RecordedAs records.Memory e = e ≡ faults.Memory
 RecordedAs records.Write e = e ≡ faults.Write
 
--- Why a table is not written: that of the constituencies where a seat is worth as much to two of them, or where the first
--- without a seat is this one; that of the returns where the set-up does not have the part that they are asked of. A fault of
--- memory or of the writer is no matter of the table.
+-- Why a table is refused. That of the constituencies: a seat is worth as much to one constituency as to another, or d is the first without
+-- a seat. That of the returns: the set-up does not have the part whose returns are wanted. Refused memory, and a fault of the writer, do
+-- not depend on the table.
 abbrev pub RefusesTable : Canton → Table → ListFault → Type 0
 RefusesTable canton table faults.Memory = Unit {0}
 RefusesTable canton table faults.Write = Unit {0}

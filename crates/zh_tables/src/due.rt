@@ -1,4 +1,4 @@
-//! The returns that are due: one for each list that stands in the constituency of a municipality.
+//! The returns that are due: in each municipality one for each list that stands in its constituency.
 ghost use Rattle.std.specs.Io.KnownBytes.{Appends};
 ghost use Rattle.std.specs.List.{flat_map};
 ghost use Rattle.std.specs.Prelude.{◌≡◌, ◌≤◌, ◌++◌, length, IfOk, MatchResult, OnOk};
@@ -15,7 +15,7 @@ use std::io::Write;
 use zh_districts::Setup;
 use zh_record_text::{RecordFault, close_table, open_table, write_record};
 
-/// How many returns one loading takes.
+/// The most returns that one `load` takes.
 const MOST_LOADED: usize = 1_000;
 
 /// A return that is due.
@@ -26,7 +26,7 @@ pub struct Due {
 }
 
 impl Part {
-    /// Whether a municipality is in this part.
+    /// Whether a municipality is in this part of the set-up.
     fn has(self, setup: &Setup, municipality: u32) -> bool
         requires from_one { 1 ≤ municipality }
         requires there { municipality ≤ length setup.now.municipalities }
@@ -39,7 +39,7 @@ impl Part {
         }
     }
 
-    /// Whether the set-up has this part.
+    /// Whether the set-up has this part. If not, the fault says which number does not exist.
     pub(crate) fn found_in(self, setup: &Setup) -> Result<(), ListFault>
         ensures { MatchResult result (λ _. HasPart setup.now self) (IsMissing setup.now self) }
     {
@@ -55,7 +55,7 @@ impl Part {
     }
 }
 
-/// Adds the return of a list in a municipality, if the list stands there.
+/// Adds the return of a list in a municipality to `due`, if the list stands there.
 fn push_due(
     setup: &Setup,
     municipality: u32,
@@ -74,7 +74,7 @@ fn push_due(
     Ok(())
 }
 
-/// Adds the returns that are due in a municipality.
+/// Adds the returns that are due in a municipality, by list.
 fn push_each_due(setup: &Setup, municipality: u32, due: &mut Vec<Due>) -> Result<(), AllocError>
     requires from_one { 1 ≤ municipality }
     requires there { municipality ≤ length setup.now.municipalities }
@@ -86,7 +86,7 @@ fn push_each_due(setup: &Setup, municipality: u32, due: &mut Vec<Due>) -> Result
     Ok(())
 }
 
-/// Adds the returns that are due in a municipality, if it is in this part.
+/// Adds the returns that are due in a municipality, if it is in this part of the set-up.
 fn push_each_within(
     setup: &Setup,
     part: Part,
@@ -103,7 +103,7 @@ fn push_each_within(
     push_each_due(setup, municipality, due)
 }
 
-/// The returns that are due in a part of the set-up.
+/// The returns that are due in a part of the set-up, by municipality and list.
 pub(crate) fn returns_due(alloc: Global, setup: &Setup, part: Part) -> Result<Vec<Due>, AllocError>
     ensures { IfOk result (λ due. due.items ≡ returns_due setup.now part) }
 {
@@ -114,7 +114,7 @@ pub(crate) fn returns_due(alloc: Global, setup: &Setup, part: Part) -> Result<Ve
     Ok(due)
 }
 
-/// Whether a table has more returns than one loading takes.
+/// Whether a table has more returns than one `load` takes.
 pub fn exceeds_load(alloc: Global, setup: &Setup, table: Table) -> Result<bool, AllocError>
     ensures { IfOk result (λ exceeds. exceeds ≡ exceeds_load setup.now table) }
 {
@@ -124,7 +124,7 @@ pub fn exceeds_load(alloc: Global, setup: &Setup, table: Table) -> Result<bool, 
     }
 }
 
-/// Writes the record of a return: number 1, and its votes to be filled in.
+/// Writes the record of a return: number 1, and an empty field for the votes.
 fn write_return<W: Write + Drop>(writer: &mut Writer<W>, due: &Due) -> Result<(), RecordFault>
     requires { IsBetweenRecords writer.old }
     ensures { OnOk result (PutsText W.contents (return_row due.now) writer.old writer.new) }

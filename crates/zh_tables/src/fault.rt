@@ -1,4 +1,4 @@
-//! Why a table is not written.
+//! Why a table was not written.
 
 ghost use Rattle.std.specs.Prelude.{◌≡◌};
 ghost use Rattle.zh_districts.specs.declared.shares.SeatFault.{SeatFault as Refusal};
@@ -11,19 +11,19 @@ use zh_districts::SeatFault;
 use zh_record_text::RecordFault;
 use zh_text::Name;
 
-/// Why a table is not written to its end.
+/// Why a table was not written in full.
 #[derive(Clone, Copy, Debug, PartialEq, Eq, Error)]
 #[error("{}", self.name())]
 pub enum ListFault {
-    /// The constituencies get no seats, or memory ran out while these were computed.
+    /// The constituencies get no seats, or an allocation was refused while the seats were computed.
     Seats(SeatFault),
-    /// The returns are asked of a municipality that the set-up does not have.
+    /// The returns of this municipality are wanted, but the set-up does not have it.
     NoMunicipality(u32),
-    /// The returns are asked of a constituency that the set-up does not have.
+    /// The returns of this constituency are wanted, but the set-up does not have it.
     NoConstituency(u32),
-    /// Memory ran out.
+    /// An allocation was refused.
     Memory,
-    /// The writer failed, or took no byte.
+    /// The writer failed or accepted zero bytes.
     Write,
 }
 
@@ -31,7 +31,7 @@ impl ListFault {
     ghost use Rattle.zh_tables.specs.Faults.{list_name};
     ghost use Rattle.zh_text.specs.Names.{ArePartsOf};
 
-    /// Its name, as reports spell it.
+    /// The name of the fault in reports.
     pub fn name(self) -> Name
         ensures { ArePartsOf (list_name self) result }
     {

@@ -1,4 +1,4 @@
-//! How many rows an export has, of all that can be held.
+//! How many rows an export has, and how many returns are due.
 
 ghost use Rattle.std.specs.Prelude.{◌≡◌, ◌≤◌, length};
 ghost use Rattle.zh_tables.specs.HeldRows.{rows_held};
@@ -6,15 +6,15 @@ ghost use Rattle.zh_tables.specs.Returns.{returns_in};
 
 use zh_districts::Setup;
 
-/// How many rows an export has, of all that can be held.
+/// How many rows an export has, and how many returns are due.
 #[derive(Clone, Copy, Debug, PartialEq, Eq)]
 pub struct HeldRows {
     pub held: u32,
-    /// One for each return that is due.
+    /// One for each list that stands, in each municipality.
     pub due: u32,
 }
 
-/// How many returns are due in a municipality: one for each list that stands there.
+/// The number of returns that are due in a municipality: one for each list that stands there, so at most 32.
 fn due_in(setup: &Setup, municipality: u32) -> u32
     requires from_one { 1 ≤ municipality }
     requires there { municipality ≤ length setup.now.municipalities }
@@ -32,7 +32,7 @@ fn due_in(setup: &Setup, municipality: u32) -> u32
 }
 
 impl HeldRows {
-    /// So many rows, of those that can be held in a set-up.
+    /// `held` rows, and the returns that are due in the set-up.
     pub fn new(setup: &Setup, held: u32) -> HeldRows
         ensures { result ≡ rows_held setup.now held }
     {

@@ -1,4 +1,4 @@
-//! Votes that are hardly true, written row by row, and why they are not compared with persons.
+//! Implausible votes, written row by row, and why votes are not compared with persons.
 
 ghost use Rattle.std.specs.Prelude.{◌≡◌, ◌++◌, ◌≤◌, [], IfOk, OnOk, length};
 ghost use Rattle.zh_record_text.specs.Records.{IsBetweenRecords, PutsText};
@@ -18,7 +18,7 @@ use zh_record_text::{NumberedRows, RecordFault, write_each, write_record};
 use zh_returns::Count;
 use zh_text::{push, push_name};
 
-/// The seats of the constituencies, or why they get none. Memory is not among the reasons.
+/// The seats of the constituencies, or why they get none. The reason is never `Memory`.
 pub(crate) type Found = Result<Shares, SeatFault>;
 
 /// The seats of the constituencies of a set-up, or why they get none.
@@ -31,7 +31,7 @@ pub(crate) fn found_seats(alloc: Global, setup: &Setup) -> Result<Found, AllocEr
     }
 }
 
-/// Writes why votes are not compared with persons, in a line, if they are not.
+/// Writes a line that says why votes are not compared with persons, if they are not.
 pub(crate) fn push_note(text: &mut Said, found: &Found)
     requires { text.old.items ≡ [] }
     ensures note { text.new.items ≡ found_note found.now }
@@ -43,14 +43,14 @@ pub(crate) fn push_note(text: &mut Said, found: &Found)
     }
 }
 
-/// Votes, and what they are more than.
+/// Votes, and the limit that they exceed.
 #[derive(Clone, Copy)]
 struct Excess {
     votes: u64,
     limit: u64,
 }
 
-/// Writes the record of a list in a municipality, or without a list that of all its lists.
+/// Writes the record of a list's votes in a municipality. If `list` is empty, it is the record of all lists together.
 fn write_implausible<'a, W: Write + Drop>(
     writer: &mut Writer<W>,
     municipality: u32,
@@ -77,7 +77,7 @@ fn write_implausible<'a, W: Write + Drop>(
     write_record(writer, &fields)
 }
 
-/// The most votes that a list can have in a constituency with these seats.
+/// The most votes that a list can have in a constituency: each person has one vote for each seat.
 fn most_in(setup: &Setup, seats: &[u32], constituency: u32) -> u64
     requires from_one { 1 ≤ constituency }
     requires there { constituency ≤ length setup.now.constituencies }
@@ -87,7 +87,7 @@ fn most_in(setup: &Setup, seats: &[u32], constituency: u32) -> u64
     u64::from(setup.persons(constituency)) * u64::from(seats[(constituency - 1) as usize])
 }
 
-/// The returns of a municipality that have more votes than there can be.
+/// The returns of a municipality with more votes than a list can have there.
 #[derive(Drop)]
 struct ExceedingIn<'c> {
     count: &'c Count<'c>,
@@ -128,7 +128,7 @@ impl<'c, W: Write + Drop> NumberedRows<W> for ExceedingIn<'c> {
     }
 }
 
-/// Writes the returns of a municipality that have more votes than there can be.
+/// Writes the returns of a municipality with more votes than a list can have there.
 fn write_each_exceeding<W: Write + Drop>(
     writer: &mut Writer<W>,
     count: &Count<'_>,
@@ -147,7 +147,7 @@ fn write_each_exceeding<W: Write + Drop>(
     write_each(writer, &exceeding)
 }
 
-/// Whether votes are more than ten times those of others, of which there are some, each with returns.
+/// Whether `votes` are more than ten times those of the others. There must be others, and each must have a return.
 fn outweighs(votes: u64, others: &Progress) -> bool
     requires { AreFew 512 others.now }
     ensures { result ≡ outweighs votes others.now }
@@ -155,7 +155,7 @@ fn outweighs(votes: u64, others: &Progress) -> bool
     others.municipalities > 0 && others.begun == others.municipalities && votes > 10 * others.votes
 }
 
-/// Writes the record of a municipality, if it outweighs the others of its constituency.
+/// Writes the record of a municipality if it outweighs the others of its constituency.
 fn write_outweighing<W: Write + Drop>(
     writer: &mut Writer<W>,
     count: &Count<'_>,
@@ -185,7 +185,7 @@ fn write_outweighing<W: Write + Drop>(
     write_implausible(writer, municipality, b"", excess, name, "")
 }
 
-/// The implausible votes, municipality by municipality.
+/// The implausible votes, by municipality.
 #[derive(Drop)]
 pub(crate) struct ImplausibleRows<'c> {
     pub count: &'c Count<'c>,

@@ -1,4 +1,4 @@
-//! What keeps a set-up from ever giving seats.
+//! The problems of a set-up that keep it from ever giving seats.
 ghost use Rattle.std.specs.Io.KnownBytes.{Appends};
 ghost use Rattle.std.specs.List.{count_by};
 ghost use Rattle.std.specs.Prelude.{◌≡◌, ◌≤◌, ◌↔◌, IfOk, IsTrue, length, ◌++◌, OnOk};
@@ -19,20 +19,20 @@ use zh_record_text::{
 };
 use zh_text::{push, push_numeral};
 
-/// For each constituency in order whether it has each problem.
+/// For each constituency, in order, whether it has each of these problems.
 #[derive(Drop)]
 pub struct SetupProblems {
-    /// No municipality lies in it.
+    /// No municipality is in it.
     pub no_municipality: Vec<bool>,
     /// No list stands in it.
     pub no_list: Vec<bool>,
     /// Its persons give it no seat.
     pub no_seat: Vec<bool>,
-    /// A seat is worth as much to it as to another.
+    /// A seat is worth as much to it as to another constituency.
     pub tied_seats: Vec<bool>,
 }
 
-/// How many of these are marked.
+/// The number of marks that are set.
 fn marked(marks: &[bool]) -> usize
     ensures number { result ≡ count_by (λ mark. mark) marks.now }
     ensures most { result ≤ length marks.now }
@@ -41,7 +41,7 @@ fn marked(marks: &[bool]) -> usize
 }
 
 impl SetupProblems {
-    /// How many there are.
+    /// The number of problems, over all constituencies.
     pub fn count(&self) -> usize
         requires { HasFewMarks self.now }
         ensures { result ≡ problem_count self.now }
@@ -53,7 +53,7 @@ impl SetupProblems {
     }
 }
 
-/// Whether no municipality lies in a constituency.
+/// Whether a constituency has no municipality.
 fn lacks_municipality(setup: &Setup, constituency: u32) -> bool
     ensures { IsTrue result ↔ LacksMunicipality setup.now constituency }
 {
@@ -79,7 +79,7 @@ fn lacks_list(setup: &Setup, constituency: u32) -> bool
     true
 }
 
-/// For each constituency whether no municipality lies in it.
+/// For each constituency, whether it has no municipality.
 fn without_municipality(alloc: Global, setup: &Setup) -> Result<Vec<bool>, AllocError>
     ensures { IfOk result (λ marks. Tell (LacksMunicipality setup.now) (length setup.now.constituencies) marks.items) }
 {
@@ -90,7 +90,7 @@ fn without_municipality(alloc: Global, setup: &Setup) -> Result<Vec<bool>, Alloc
     Ok(marks)
 }
 
-/// For each constituency whether no list stands in it.
+/// For each constituency, whether no list stands in it.
 fn without_list(alloc: Global, setup: &Setup) -> Result<Vec<bool>, AllocError>
     ensures { IfOk result (λ marks. Tell (LacksList setup.now) (length setup.now.constituencies) marks.items) }
 {
@@ -101,7 +101,7 @@ fn without_list(alloc: Global, setup: &Setup) -> Result<Vec<bool>, AllocError>
     Ok(marks)
 }
 
-/// What keeps this set-up from giving seats.
+/// The problems that keep this set-up from giving seats.
 pub fn setup_problems(alloc: Global, setup: &Setup) -> Result<SetupProblems, AllocError>
     ensures problems { IfOk result (AreProblems setup.now) }
     ensures few { IfOk result HasFewMarks }
@@ -115,7 +115,7 @@ pub fn setup_problems(alloc: Global, setup: &Setup) -> Result<SetupProblems, All
     })
 }
 
-/// A line that says how many there are, and what names them.
+/// A line for standard error with the number of problems, and the command that lists them.
 pub fn problems_line(problems: &SetupProblems) -> ArrayVec<u8, 96>
     requires { HasFewMarks problems.now }
     ensures { result.items ≡ problems_line (problem_count problems.now) }
@@ -127,7 +127,7 @@ pub fn problems_line(problems: &SetupProblems) -> ArrayVec<u8, 96>
     line
 }
 
-/// A problem, and the constituencies that have it.
+/// The constituencies with one of the problems.
 #[derive(Drop)]
 struct MarkedRows<'a> {
     setup: &'a Setup,
@@ -163,7 +163,7 @@ impl<'a, W: Write + Drop> NumberedRows<W> for MarkedRows<'a> {
     }
 }
 
-/// Writes the record of this problem of each constituency that is marked.
+/// Writes the record of this problem for each constituency that is marked.
 fn write_marked<W: Write + Drop>(
     writer: &mut Writer<W>,
     setup: &Setup,
@@ -182,7 +182,7 @@ fn write_marked<W: Write + Drop>(
     write_each(writer, &rows)
 }
 
-/// Writes the records of these problems, problem by problem.
+/// Writes the records of all problems, one problem after another.
 fn write_each_problem<W: Write + Drop>(
     writer: &mut Writer<W>,
     setup: &Setup,

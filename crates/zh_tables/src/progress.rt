@@ -1,36 +1,36 @@
-//! How far the returns have come in.
+//! How many returns are in.
 
 ghost use Rattle.std.specs.Prelude.{◌≡◌, ◌≤◌, length};
 ghost use Rattle.zh_tables.specs.Progress.{AreFew, both, entry_votes, is_missing, is_within, one_if, progress_of, progress_over, within};
 
 use zh_returns::{Count, Entry};
 
-/// How far the returns of some municipalities have come in.
+/// How many returns are in from some municipalities.
 #[derive(Clone, Copy)]
 pub(crate) struct Progress {
-    /// Returns that are there, those of withdrawn lists among them.
+    /// Returns that are held, including withdrawals.
     pub held: u32,
-    /// Returns that are due: one for each list that stands.
+    /// Returns that are due: one for each list that stands, in each municipality.
     pub due: u32,
-    /// Returns that are due and not there.
+    /// Returns that are due and not held.
     pub missing: u32,
-    /// The votes of those that are there.
+    /// The votes of the returns that are held.
     pub votes: u64,
     pub municipalities: u32,
-    /// How many of these have a return.
+    /// How many of the municipalities have a return.
     pub begun: u32,
-    /// How many of these are closed.
+    /// How many of the municipalities are closed.
     pub closed: u32,
 }
 
-/// Some of the municipalities.
+/// A set of municipalities.
 #[derive(Clone, Copy)]
 pub(crate) enum Region {
     /// All of them.
     Whole,
-    /// Those of a constituency.
+    /// Those of one constituency.
     Constituency(u32),
-    /// Those of a constituency but one.
+    /// Those of one constituency, except one.
     Others { constituency: u32, besides: u32 },
 }
 
@@ -40,7 +40,7 @@ fn one_if(holds: bool) -> u32
     if holds { 1 } else { 0 }
 }
 
-/// The votes of what is held, if anything is. A list that is withdrawn has none.
+/// The votes of an entry. A withdrawn list, or no entry, has none.
 pub(crate) fn entry_votes(held: Option<Entry>) -> u64
     ensures { result ≡ entry_votes held }
 {
@@ -50,7 +50,7 @@ pub(crate) fn entry_votes(held: Option<Entry>) -> u64
     }
 }
 
-/// Whether a return is due and not there.
+/// Whether a return is due and not held.
 pub(crate) fn is_missing(count: &Count<'_>, municipality: u32, list: u32) -> bool
     requires from_one { 1 ≤ municipality }
     requires there { municipality ≤ length count.now.canton.municipalities }
@@ -63,7 +63,7 @@ pub(crate) fn is_missing(count: &Count<'_>, municipality: u32, list: u32) -> boo
         && count.entry(municipality, list).is_none()
 }
 
-/// Two of them taken together.
+/// The sum of two, field by field.
 fn both(one: Progress, other: Progress) -> Progress
     requires few { AreFew 511 one }
     requires one { AreFew 1 other }
@@ -80,7 +80,7 @@ fn both(one: Progress, other: Progress) -> Progress
     }
 }
 
-/// How far the returns of a municipality have come in.
+/// How many returns are in from a municipality.
 pub(crate) fn progress_of(count: &Count<'_>, municipality: u32) -> Progress
     requires from_one { 1 ≤ municipality }
     requires there { municipality ≤ length count.now.canton.municipalities }
@@ -111,7 +111,7 @@ pub(crate) fn progress_of(count: &Count<'_>, municipality: u32) -> Progress
     }
 }
 
-/// How far the returns of a region have come in.
+/// How many returns are in from a region.
 pub(crate) fn progress_within(count: &Count<'_>, region: Region) -> Progress
     ensures progress { result ≡ progress_over count.now (within count.now.canton region) }
     ensures few { AreFew 512 result }
@@ -134,7 +134,7 @@ pub(crate) fn progress_within(count: &Count<'_>, region: Region) -> Progress
     progress
 }
 
-/// Whether a municipality lies in a region.
+/// Whether a municipality is in a region.
 fn is_within(count: &Count<'_>, municipality: u32, region: Region) -> bool
     requires from_one { 1 ≤ municipality }
     requires there { municipality ≤ length count.now.canton.municipalities }

@@ -14,7 +14,7 @@ use std::io::Write;
 use zh_record_text::{NumberedRows, RecordFault, write_each, write_record, write_table};
 use zh_returns::Count;
 
-/// How far each municipality has come.
+/// How many returns are in, for each municipality.
 #[derive(Drop)]
 struct MunicipalityRows<'c> {
     count: &'c Count<'c>,
@@ -41,7 +41,7 @@ impl<'c, W: Write + Drop> NumberedRows<W> for MunicipalityRows<'c> {
     }
 }
 
-/// How far each constituency has come.
+/// How many returns are in, for each constituency.
 #[derive(Drop)]
 struct ConstituencyRows<'c> {
     count: &'c Count<'c>,
@@ -68,7 +68,7 @@ impl<'c, W: Write + Drop> NumberedRows<W> for ConstituencyRows<'c> {
     }
 }
 
-/// The returns of a municipality that are not there.
+/// The missing returns of a municipality.
 #[derive(Drop)]
 struct MissingIn<'c> {
     count: &'c Count<'c>,
@@ -106,7 +106,7 @@ impl<'c, W: Write + Drop> NumberedRows<W> for MissingIn<'c> {
     }
 }
 
-/// The returns that are not there, municipality by municipality.
+/// The missing returns, by municipality.
 #[derive(Drop)]
 struct MissingRows<'c> {
     count: &'c Count<'c>,
@@ -135,8 +135,8 @@ impl<'c, W: Write + Drop> NumberedRows<W> for MissingRows<'c> {
     }
 }
 
-/// Writes a view of a count: the names of the columns, and then a record for each of its rows, in order. It gives the writer
-/// back. After an error a front of the text may be written.
+/// Writes a view of a count: a record with the names of the columns, then one for each of its rows, in order. Returns
+/// the writer. On an error, a prefix of the text might have been written.
 pub fn write_status<W: Write + Drop>(
     alloc: Global,
     count: &Count<'_>,
@@ -175,7 +175,8 @@ pub fn write_status<W: Write + Drop>(
     }
 }
 
-/// Whether all of the municipalities are closed, in a word. A constituency may have none.
+/// The state in one word: whether all of the municipalities are closed, or there are none, as a constituency can have
+/// none.
 fn state_of(progress: &Progress) -> &str
     ensures { result.now ≡ state_of progress.now }
 {
@@ -188,7 +189,7 @@ fn state_of(progress: &Progress) -> &str
     }
 }
 
-/// Writes the record of a municipality, or of a constituency, that has come this far.
+/// Writes the record of a municipality, or of a constituency, with this progress.
 pub(crate) fn write_progress<W: Write + Drop>(
     writer: &mut Writer<W>,
     number: u32,

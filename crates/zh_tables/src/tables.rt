@@ -14,14 +14,14 @@ use std::io::Write;
 use zh_districts::{Setup, seats};
 use zh_record_text::{NumberedRows, RecordFault, write_each, write_record, write_table};
 
-/// The part of a set-up that a table is of.
+/// A part of a set-up.
 #[derive(Clone, Copy, Debug, PartialEq, Eq)]
 pub enum Part {
     /// All of it.
     Whole,
-    /// The municipality of this number.
+    /// The municipality with this number.
     Municipality(u32),
-    /// The municipalities of the constituency of this number.
+    /// The municipalities of the constituency with this number.
     Constituency(u32),
 }
 
@@ -36,9 +36,9 @@ pub enum Table {
     Groups,
     /// Each list that stands: a group in a constituency.
     Lists,
-    /// What keeps each constituency from ever getting or giving seats.
+    /// The problems that keep each constituency from ever getting or giving seats.
     Problems,
-    /// The returns that are due in a part of the set-up, to be filled in and loaded.
+    /// The returns that are due in a part of the set-up. With their votes filled in, they can be loaded.
     Returns(Part),
 }
 
@@ -178,7 +178,7 @@ impl<'a, W: Write + Drop> NumberedRows<W> for ListsIn<'a> {
     }
 }
 
-/// The lists that stand, constituency by constituency.
+/// The lists that stand, by constituency.
 #[derive(Drop)]
 struct ListRows<'a> {
     setup: &'a Setup,
@@ -226,9 +226,9 @@ fn write_constituencies<W: Write + Drop>(
     Ok(write_table(&columns, &rows, writer)?)
 }
 
-/// Writes a table of the set-up: the names of its columns, and then a record for each of its rows, in order. It gives the
-/// writer back. After an error a front of the text may be written, and nothing where the constituencies get no seats, or where
-/// the set-up does not have the part of which the returns are asked.
+/// Writes a table of the set-up: a record with the names of its columns, then one for each of its rows, in order.
+/// Returns the writer. On an error, a prefix of the text might have been written; nothing is written if the
+/// constituencies get no seats, or if the set-up does not have the part whose returns are wanted.
 pub fn write_list<W: Write + Drop>(
     alloc: Global,
     setup: &Setup,

@@ -1,4 +1,4 @@
-//! The views of the returns, and what is said beside each.
+//! The views of the returns, and the lines that go with each.
 ghost use Rattle.std.specs.Prelude.{◌≡◌, ◌++◌, ◌≤◌, IfOk, length};
 ghost use Rattle.zh_tables.specs.Status.{IsSaidOf, summary, summary_of, would_be};
 
@@ -9,20 +9,20 @@ use std::alloc::{AllocError, Global};
 use zh_returns::Count;
 use zh_text::{push, push_numbered, push_numeral};
 
-/// What is shown of the returns.
+/// A view of the returns.
 #[derive(Clone, Copy, Debug, PartialEq, Eq)]
 pub enum View {
-    /// Each municipality with what is there of it.
+    /// Each municipality, with how many of its returns are in.
     Municipalities,
-    /// The same of each constituency.
+    /// Each constituency, with how many of its returns are in.
     Constituencies,
-    /// Each return that is not there.
+    /// Each return that is missing.
     Missing,
-    /// Votes that are hardly true.
+    /// Implausible votes.
     Implausible,
 }
 
-/// Whether a final sheet would be of all returns.
+/// Whether a final sheet would be of all returns, in words.
 fn would_be(progress: &Progress) -> &str
     ensures { result.now ≡ would_be progress.now }
 {
@@ -33,11 +33,11 @@ fn would_be(progress: &Progress) -> &str
     }
 }
 
-/// The lines that are said beside a view, which have at most 281 bytes.
+/// The lines that go with a view: at most 281 bytes.
 pub(crate) type Said = ArrayVec<u8, 320>;
 
-/// Writes how many returns are there of those that are due, how many municipalities are closed, how many commands were accepted,
-/// and whether a final sheet would be of all returns, in a line.
+/// Writes a line with the returns held and due, the municipalities closed and their number, the commands accepted, and
+/// whether a final sheet would be of all returns.
 fn push_progress(text: &mut Said, progress: &Progress, accepted: u64)
     requires { length text.old.items ≤ 94 }
     ensures { text.new.items ≡ text.old.items ++ summary_of progress.now accepted }
@@ -53,7 +53,7 @@ fn push_progress(text: &mut Said, progress: &Progress, accepted: u64)
     push(text, " of all returns\n");
 }
 
-/// Writes how far the whole canton is, in a line.
+/// Writes this line for the whole canton.
 fn push_summary(text: &mut Said, count: &Count<'_>)
     requires { length text.old.items ≤ 94 }
     ensures { text.new.items ≡ text.old.items ++ summary count.now }
@@ -62,8 +62,8 @@ fn push_summary(text: &mut Said, count: &Count<'_>)
     push_progress(text, &progress, count.accepted());
 }
 
-/// What is said beside a view, in lines: of implausible votes why they are not compared with persons, where the constituencies
-/// get no seats; and then how far the whole canton is.
+/// The lines that go with a view: how many returns are in from the whole canton. For implausible votes there is a line
+/// above it if the constituencies get no seats, which says that votes are not compared with persons.
 pub fn said_of(alloc: Global, count: &Count<'_>, view: View) -> Result<Vec<u8>, AllocError>
     ensures { IfOk result (λ text. IsSaidOf count.now view text.items) }
 {

@@ -1,4 +1,4 @@
--- Numerals: what `parse` reads, and how they begin.
+-- Numbers in decimal: what `parse` reads, and how they begin.
 use Rattle.std.proofs.Common.{◌≡◌, ◌≢◌, ℕ, ◌<◌, ◌^◌, List, length, drop, get_or, Ok, Err, Result, MatchOption, decimal, IsUtf8, sym, ap, ◌∙◌, subst, inl, inr, arith, length-drop}
 use Rattle.std.proofs.lemmas.Fmt.{decimal_is_IsNumeral, decimal_digit, first_decimal, parse-decimal, decimal-digits_value, IsAscii-decimal}
 use Rattle.std.proofs.lemmas.Str.{IsUtf8-from_ascii}
@@ -8,7 +8,7 @@ use Rattle.std.specs.Int.{IsInRange}
 use Rattle.std.specs.Result.{result_ok}
 use Rattle.std.specs.Str.Parse.{AllDigits, ParsesUnsigned, without_leading_plus, IsNumeral}
 
--- a numeral of several digits begins with 1 to 9
+-- a number in decimal with several digits begins with 1 to 9
 pub IsInRange-from_decimal : (word : List ℕ) (n : ℕ) → n < 2 ^ 32 → word ≡ decimal n → 1 < length word → IsInRange 49 57 (get_or word 0 0)
 IsInRange-from_decimal word n small e long =
     elim (cases_lt n 10) [
@@ -20,11 +20,11 @@ IsInRange-from_decimal word n small e long =
           rw e (omega (arith, first, digit.0), digit.1)
     ]
 
--- a numeral is text
+-- a number in decimal is UTF-8
 pub IsUtf8-from_decimal : (word : List ℕ) (n : ℕ) → n < 2 ^ 32 → word ≡ decimal n → IsUtf8 word
 IsUtf8-from_decimal word n small e = rw e (IsUtf8-from_ascii (decimal n) (IsAscii-decimal n (omega arith)))
 
--- a word that `parse` reads begins with no sign, if it begins as numerals do
+-- a word that `parse` reads has no sign if it has at most one byte or begins with 1 to 9
 no_sign : (word : List ℕ) → (1 < length word → IsInRange 49 57 (get_or word 0 0)) → IsNumeral 10 (without_leading_plus word) → get_or word 0 0 ≢ 43
 no_sign word plain digits sign =
     let e = without_leading_plus_plus word sign in
@@ -32,7 +32,7 @@ no_sign word plain digits sign =
     let long : 1 < length word = omega (arith, some, length-drop 1 word) in
     absurd (omega (arith, (plain long).0, sign))
 
--- what `parse` reads of a word that begins as numerals do is the number with this numeral
+-- what `parse` reads from such a word is the number that it spells in decimal
 pub MatchOption-from_parse : {E : Type 0} (word : List ℕ) (r : Result ℕ E) → (1 < length word → IsInRange 49 57 (get_or word 0 0)) → ParsesUnsigned 32 10 word r → MatchOption (result_ok r) ((n : ℕ) → n < 2 ^ 32 → word ≢ decimal n) (λ n. (n < 2 ^ 32) × (word ≡ decimal n))
 MatchOption-from_parse word (Err error) plain parsed =
     λ n small e. let wrong = parse-decimal 32 n word (Err error) small (omega arith) e parsed in cc

@@ -1,4 +1,4 @@
--- How long numbers are, and their zeros in front.
+-- The lengths of numbers in decimal, and their leading zeros.
 use Rattle.std.proofs.Common.{◌≡◌, ◌/◌, ◌%◌, ◌-◌, ◌<◌, ◌≤◌, ◌^◌, ◌++◌, ◌∷◌, ◌∙◌, [], ℕ, List, Result, Ok, Err, IsOk, OnOk, ap, arith, decimal, length, length-append, replicate, take}
 use Rattle.std.proofs.lemmas.Fmt.{length-decimal-le}
 use Rattle.std.proofs.lemmas.List.{length-replicate, take-replicate}
@@ -16,19 +16,19 @@ length-padded digits number few =
     let zero : ℕ = 48 in
     omega (arith, few, length-append (replicate (digits - length (decimal number)) zero) (decimal number), length-replicate (digits - length (decimal number)) zero)
 
--- what there is room for was put
+-- what holds on success holds, because the result is a success
 pub is_put : {T E P : Type 0} (result : Result T E) → IsOk result → OnOk result P → P
 is_put (Ok done) is there = there
 is_put (Err fault) is there = absurd (cc is)
 
--- the zeros that are missing
+-- the zeros written are as many as the number lacks digits
 pub zeros_put : (none zeros written : List ℕ) (digits number : ℕ) → digits ≤ 6 → none ≡ [] → written ≡ decimal number
     → zeros ≡ none ++ take (digits - length written) six_zeros → zeros ≡ replicate (digits - length (decimal number)) 48
 zeros_put none zeros written digits number few empty are put =
     put ∙ ap (λ (l : List ℕ). l ++ take (digits - length written) six_zeros) empty ∙ ap (λ (l : List ℕ). take (digits - length l) six_zeros) are
     ∙ take-replicate (digits - length (decimal number)) 6 48 (omega (arith, few))
 
--- numbers of 64 bits have 20 digits
+-- a 64-bit number has at most 20 digits
 pub digits : (n : ℕ) → n < 2 ^ 64 → length (decimal n) ≤ 20
 digits n small = length-decimal-le 20 n (omega arith) (omega arith) small
 

@@ -1,4 +1,4 @@
-//! Bytes that are put together in an array of fixed length, with no memory: each call writes after what is there.
+//! Text put together in an array of fixed capacity, without allocation. Each function appends to what the array already contains.
 
 ghost use Rattle.std.specs.Prelude.{◌≡◌, ◌+◌, ◌≤◌, ◌++◌, codes, length, decimal};
 ghost use Rattle.zh_text.specs.Numbers.{millionths_text, or_dash};
@@ -7,7 +7,7 @@ use crate::numbers::millionths_text;
 use arrayvec::ArrayVec;
 use itoa::Buffer;
 
-/// Writes bytes.
+/// Appends bytes.
 pub fn push_bytes<const N: usize>(text: &mut ArrayVec<u8, N>, bytes: &[u8])
     requires { length text.old.items + length bytes.now ≤ N }
     ensures { text.new.items ≡ text.old.items ++ bytes.now }
@@ -15,7 +15,7 @@ pub fn push_bytes<const N: usize>(text: &mut ArrayVec<u8, N>, bytes: &[u8])
     let _fits = text.try_extend_from_slice(bytes);
 }
 
-/// Writes words.
+/// Appends a string.
 pub fn push<const N: usize>(text: &mut ArrayVec<u8, N>, words: &str)
     requires { length text.old.items + length words.now ≤ N }
     ensures { text.new.items ≡ text.old.items ++ words.now }
@@ -23,7 +23,7 @@ pub fn push<const N: usize>(text: &mut ArrayVec<u8, N>, words: &str)
     push_bytes(text, words.as_bytes());
 }
 
-/// Writes a numeral, which has at most 20 digits.
+/// Appends a number in decimal, which has at most 20 digits.
 pub fn push_numeral<const N: usize>(text: &mut ArrayVec<u8, N>, number: u64)
     requires { length text.old.items + 20 ≤ N }
     ensures text { text.new.items ≡ text.old.items ++ decimal number }
@@ -32,7 +32,7 @@ pub fn push_numeral<const N: usize>(text: &mut ArrayVec<u8, N>, number: u64)
     push(text, Buffer::new().format(number));
 }
 
-/// Writes words and then a numeral, which has at most 10 digits.
+/// Appends a string and then a 32-bit number in decimal, which has at most 10 digits.
 pub fn push_numbered<const N: usize>(text: &mut ArrayVec<u8, N>, words: &str, number: u32)
     requires { length text.old.items + length words.now + 20 ≤ N }
     ensures text { text.new.items ≡ text.old.items ++ words.now ++ decimal number }
@@ -42,7 +42,7 @@ pub fn push_numbered<const N: usize>(text: &mut ArrayVec<u8, N>, words: &str, nu
     push_numeral(text, u64::from(number));
 }
 
-/// Writes a numeral, or a dash where there is no number.
+/// Appends a number in decimal, or a dash if there is no number.
 pub fn push_numeral_or_dash<const N: usize>(text: &mut ArrayVec<u8, N>, number: Option<u64>)
     requires { length text.old.items + 20 ≤ N }
     ensures text { text.new.items ≡ text.old.items ++ or_dash decimal number }
@@ -54,7 +54,7 @@ pub fn push_numeral_or_dash<const N: usize>(text: &mut ArrayVec<u8, N>, number: 
     }
 }
 
-/// Writes a fraction, which has at most 41 bytes.
+/// Appends a fraction as numerator, slash and denominator: at most 41 bytes.
 pub fn push_fraction<const N: usize>(text: &mut ArrayVec<u8, N>, num: u64, den: u32)
     requires { length text.old.items + 41 ≤ N }
     ensures text { text.new.items ≡ text.old.items ++ (decimal num ++ (codes "/" ++ decimal den)) }
@@ -64,7 +64,7 @@ pub fn push_fraction<const N: usize>(text: &mut ArrayVec<u8, N>, num: u64, den: 
     push_numbered(text, "/", den);
 }
 
-/// Writes a divisor in millionths, with six digits after the dot, which has at most 27 bytes.
+/// Appends a divisor, given in millionths, with six decimal places: at most 27 bytes.
 pub fn push_divisor<const N: usize>(text: &mut ArrayVec<u8, N>, millionths: u64)
     requires { length text.old.items + 27 ≤ N }
     ensures text { text.new.items ≡ text.old.items ++ millionths_text millionths }
@@ -73,7 +73,7 @@ pub fn push_divisor<const N: usize>(text: &mut ArrayVec<u8, N>, millionths: u64)
     push_bytes(text, &millionths_text(u128::from(millionths)));
 }
 
-/// Writes a divisor in millionths, or a dash where there is none.
+/// Appends a divisor, given in millionths, or a dash if there is none.
 pub fn push_divisor_or_dash<const N: usize>(text: &mut ArrayVec<u8, N>, millionths: Option<u64>)
     requires { length text.old.items + 27 ≤ N }
     ensures text { text.new.items ≡ text.old.items ++ or_dash millionths_text millionths }

@@ -1,4 +1,4 @@
-//! Names in their parts.
+//! Names as replies and reports spell them.
 
 ghost use Rattle.std.specs.Prelude.{◌≡◌, ◌+◌, ◌≤◌, ◌++◌, length};
 ghost use Rattle.zh_text.specs.Names.{HasShortWords, name_text};
@@ -7,7 +7,7 @@ use crate::fixed_text::{push, push_numbered};
 use arrayvec::ArrayVec;
 use std::fmt;
 
-/// A name in its parts, as replies and reports spell it: words, and up to two numbers after them, a space before each.
+/// A name as replies and reports spell it: words, then up to two numbers, each after a space.
 #[derive(Clone, Copy)]
 pub enum Name {
     Words(&'static str),
@@ -30,7 +30,7 @@ impl fmt::Display for Name {
     }
 }
 
-/// Writes a name, which has at most 36 bytes.
+/// Appends a name, which has at most 36 bytes.
 pub fn push_name<const N: usize>(text: &mut ArrayVec<u8, N>, name: Name)
     requires words { HasShortWords name }
     requires room { length text.old.items + 46 ≤ N }

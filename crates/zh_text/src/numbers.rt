@@ -1,4 +1,4 @@
-//! Numbers in decimal, written and read.
+//! Writing and reading numbers in decimal.
 ghost use Rattle.std.specs.Int.{IsInRange};
 ghost use Rattle.std.specs.Prelude.{◌≡◌, ◌<◌, ◌≤◌, ◌^◌, ◌++◌, OnOk, length, ◌≢◌, ◌↔◌, ℕ, slice_index, decimal, IsTrue, MatchOption};
 ghost use Rattle.zh_text.specs.Numbers.{millionths_text, padded};
@@ -9,17 +9,17 @@ use itoa::{Buffer, Integer};
 use std::alloc::AllocError;
 use std::str;
 
-/// Puts a number at the end of a text.
+/// Appends a number in decimal to a text.
 pub fn push_number<I: Integer>(text: &mut Vec<u8>, number: I) -> Result<(), AllocError>
     ensures { OnOk result (text.new.items ≡ text.old.items ++ I.text number) }
 {
     text.extend_from_slice(Buffer::new().format(number).as_bytes())
 }
 
-/// A number of at most six digits.
+/// The text of a number with at most six digits.
 pub type Padded = ArrayVec<u8, 6>;
 
-/// A number of so many digits, zeros in front.
+/// A number in decimal with this many digits, padded with leading zeros.
 pub fn padded(number: u32, digits: usize) -> Padded
     requires some { 1 ≤ digits }
     requires few { digits ≤ 6 }
@@ -36,10 +36,10 @@ pub fn padded(number: u32, digits: usize) -> Padded
     text
 }
 
-/// A number with digits after the dot.
+/// The text of a number with decimal places.
 pub type DecimalText = ArrayVec<u8, 47>;
 
-/// A number of so many millionths, with six digits after the dot.
+/// A number given in millionths, in decimal with six decimal places.
 pub fn millionths_text(millionths: u128) -> DecimalText
     ensures { result.items ≡ millionths_text millionths }
 {
@@ -50,14 +50,14 @@ pub fn millionths_text(millionths: u128) -> DecimalText
     text
 }
 
-/// Whether a numeral may begin like this: `parse` also takes a sign and leading zeros.
+/// Whether the word has at most one byte or begins with 1 to 9. `parse` alone also accepts a sign and leading zeros.
 fn is_plain(word: &[u8]) -> bool
     ensures { IsTrue result ↔ (1 < length word.now → IsInRange 49 57 (slice_index word.now 0)) }
 {
     word.len() <= 1 || matches!(word[0], b'1'..=b'9')
 }
 
-/// The number of 32 bits with this numeral, which has no sign and no leading zero.
+/// The 32-bit number that the word spells in decimal, without a sign or leading zeros. `None` if it spells none.
 pub fn numeral(word: &[u8]) -> Option<u32>
     ensures { MatchOption result ((n : ℕ) → n < 2 ^ 32 → word.now ≢ decimal n)
         (λ n. (n < 2 ^ 32) × (word.now ≡ decimal n)) }

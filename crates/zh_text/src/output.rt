@@ -1,18 +1,18 @@
-//! Bytes that are put to a writer.
+//! Writing bytes to a writer.
 ghost use Rattle.std.specs.Prelude.{◌≡◌, ℕ, ◌<◌, [], length, take, IsOk, OnOk, OnErr};
 ghost use Rattle.std.specs.Io.KnownBytes.{Appends};
 
 use std::io::Write;
 use thiserror::Error;
 
-/// The writer failed, or took no byte.
+/// A write returned an error or took no byte.
 #[derive(Clone, Copy, Debug, PartialEq, Eq, Error)]
 #[error("write")]
 pub struct WriteFault;
 
-/// Writes all of the bytes, in as many writes as the writer needs. After an error a front of them is written, never all.
+/// Writes all of the bytes, in as many writes as the writer needs. After an error only a proper prefix of them is written.
 ///
-/// It fails at the first write that fails, an interrupted one too, or that takes no byte.
+/// Fails at the first write that takes no byte or returns an error, even if it was only interrupted.
 pub fn put<W: Write>(out: &mut W, bytes: &[u8]) -> Result<(), WriteFault>
     ensures all { OnOk result (Appends (W.contents out.old) (W.contents out.new) bytes.now) }
     ensures nothing { bytes.now ≡ [] → IsOk result }

@@ -1,4 +1,4 @@
-//! Text as it is shown in a line: nothing that a terminal might act on.
+//! Text made safe to show on one line, with nothing that a terminal might act on.
 
 ghost use Rattle.std.specs.Prelude.{◌≡◌, ◌+◌, ◌≤◌, ◌<◌, ◌++◌, OnOk, get_or, length};
 ghost use Rattle.zh_text.specs.Shown.{byte_shown, mark_shown, return_shown, shown_at, shown_text};
@@ -7,19 +7,19 @@ ghost use Rattle.zh_text.specs.declared.shown.ShownNames.TheVariants as names;
 use crate::signs::{Sign, sign_at};
 use std::alloc::AllocError;
 
-/// What is shown by its name. Any other control is a question mark.
+/// Which bytes are shown by a name, such as `<CR>`. All other control characters become question marks.
 #[derive(Clone, Copy, Debug, PartialEq, Eq)]
 pub enum ShownNames {
     /// Nothing.
     None,
     /// A byte order mark, as `<BOM>`.
     Mark,
-    /// A byte order mark, and a CR, as `<CR>`: a copy may have one at the end of each line.
+    /// A byte order mark as `<BOM>` and a CR as `<CR>`, since a copied text can have a CR at the end of each line.
     MarkAndReturn,
 }
 
 impl ShownNames {
-    /// A byte order mark, as it is shown.
+    /// How a byte order mark is shown.
     fn mark(self) -> &'static [u8]
         ensures shown { result.now ≡ mark_shown self }
         ensures short { length result.now ≤ 5 }
@@ -31,7 +31,7 @@ impl ShownNames {
         }
     }
 
-    /// A CR, as it is shown.
+    /// How a CR is shown.
     fn carriage_return(self) -> &'static [u8]
         ensures shown { result.now ≡ return_shown self }
         ensures short { length result.now ≤ 4 }
@@ -44,7 +44,7 @@ impl ShownNames {
     }
 }
 
-/// A byte that is no part of a mark or of a control of two bytes, as it is shown: the only one of these bytes.
+/// How a single byte is shown that is not part of a byte order mark or of a two-byte control character.
 fn byte_shown(named: ShownNames, byte: &[u8]) -> &[u8]
     requires { length byte.now ≡ 1 }
     ensures shown { result.now ≡ byte_shown named (get_or byte.now 0 0) }
@@ -58,7 +58,7 @@ fn byte_shown(named: ShownNames, byte: &[u8]) -> &[u8]
     }
 }
 
-/// The byte of a text at this place, as it is shown: nothing for a further byte of a mark or a control of more than one.
+/// How the byte at this place of a text is shown. A byte order mark or a two-byte control character is shown at its first byte.
 pub fn shown_at(named: ShownNames, text: &[u8], place: usize) -> &[u8]
     requires { place < length text.now }
     ensures shown { result.now ≡ shown_at named text.now (place + 1) }
@@ -73,7 +73,7 @@ pub fn shown_at(named: ShownNames, text: &[u8], place: usize) -> &[u8]
     }
 }
 
-/// Puts a text at the end of another, as it is shown.
+/// Appends a text in the form in which it is shown.
 pub fn push_shown(text: &mut Vec<u8>, named: ShownNames, shown: &[u8]) -> Result<(), AllocError>
     ensures { OnOk result (text.new.items ≡ text.old.items ++ shown_text named shown.now) }
 {

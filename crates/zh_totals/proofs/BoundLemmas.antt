@@ -27,7 +27,7 @@ use Rattle.zh_totals.proofs.TotalsLemmas.{CanNote, noted_all}
 pub municipality_there : (canton : Canton) (m : ℕ) → 1 ≤ m → m ≤ length canton.municipalities → has_municipality canton m ≡ true
 municipality_there canton m from_one within = grind (arith, nat_tests)
 
--- a municipality of the set-up lies in a constituency of it
+-- a municipality of the set-up lies in one of its constituencies
 pub key_there : (canton : Canton) (m l : ℕ) → IsCanton canton → has_municipality canton m ≡ true → 1 ≤ l → l ≤ length canton.groups → IsThere canton m l
 key_there canton m l limits there from_one within =
     let number = municipality_within canton m there in
@@ -40,7 +40,7 @@ key_there canton m l limits there from_one within =
       | inr past ↦ absurd (omega arith)
     ]
 
--- the totals of a count can take what is put under a key of the set-up
+-- the totals of a count can take the votes that are put under a key of the set-up
 pub can_note_entry : (tally : Tally) (m l votes : ℕ) → IsThere tally.canton m l → CanNote (totals_of tally) (change_to tally m l votes)
 can_note_entry tally m l votes there =
     let at = constituency_of tally.canton m in
@@ -51,7 +51,7 @@ can_note_entry tally m l votes there =
       before = subst (λ n. votes_held tally m l ≤ n) (sym (votes_counted tally at l there.constituency.0 there.constituency.1 there.list.0 there.list.1)) (held_counted tally m l);
     }
 
--- without an entry there are no votes
+-- without entries there are no votes
 no_entries : (es : List ((ℕ × ℕ) × Entry)) → length es ≡ 0 → es ≡ []
 no_entries [] none = refl
 no_entries (e ∷ es) none = absurd (omega arith)
@@ -135,7 +135,7 @@ AreTotals-of tally limits = record {
   most = omega (arith, few_votes tally limits);
 }
 
--- the sums before the first return
+-- the sums before the first return are 0
 pub no_sums : (canton : Canton) → IsCanton canton → (totals_of (empty canton)).votes ≡ replicate (length canton.constituencies * length canton.groups) 0
 no_sums canton limits =
     let rows = length canton.constituencies in

@@ -1,4 +1,4 @@
--- What the crates above may use.
+-- The lemmas that crates above may use.
 pub use Rattle.zh_totals.proofs.TotalsLemmas.{group_within, constituency_within, constituency_most, group_most}
 pub use Rattle.zh_totals.proofs.BoundLemmas.{few_votes, AreTotals-of}
 pub use Rattle.zh_totals.proofs.ChangeLemmas.{votes_can, entry_noted}

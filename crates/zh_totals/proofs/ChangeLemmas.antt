@@ -1,4 +1,4 @@
--- What totals of a count can take, and what they are after it.
+-- The changes that the totals of a count can take, and the totals afterwards.
 use Rattle.std.proofs.Common.{◌≡◌, ◌∙◌, ℕ, ◌+◌, ◌≤◌, true, Some, IfSome, sym, ap, subst, arith}
 use Rattle.zh_districts.specs.Canton.{has_municipality, stands, constituency_of}
 use Rattle.zh_returns.specs.declared.command.Format.TheVariants.{Two}
@@ -25,7 +25,7 @@ standing_there tally m l limits there standing =
     let list = list_within tally.canton (constituency_of tally.canton m) l standing in
     key_there tally.canton m l limits.canton there list.0 list.1
 
--- the totals of a count can take any votes that a return may have, of a list that stands
+-- the totals of a count can take any votes that a return may have, for a list that stands
 pub votes_can : (tally : Tally) (m l votes : ℕ) → IsTally tally → has_municipality tally.canton m ≡ true → stands tally.canton (constituency_of tally.canton m) l ≡ true → votes ≤ 1000000000 →
     IsChange (totals_of tally) (change_to tally m l votes)
 votes_can tally m l votes limits there standing enough =
@@ -37,12 +37,12 @@ votes_can tally m l votes limits there standing enough =
     let same : all_votes (totals_of (with_entry tally m l entry)) ≡ all_votes (noted (totals_of tally) (change_to tally m l votes)) = ap all_votes (noted_entry tally m l entry key) in
     record { constituency = key.constituency; list = key.list; before = can.before; after = enough; most = omega arith }
 
--- the totals of a count with an entry put over what is held are noted
+-- if an entry replaces what is held, its change is noted in the totals
 pub entry_noted : (tally : Tally) (m l : ℕ) (entry : Entry) → IsTally tally → has_municipality tally.canton m ≡ true → stands tally.canton (constituency_of tally.canton m) l ≡ true →
     totals_of (with_entry tally m l entry) ≡ noted (totals_of tally) (change_to tally m l (votes_of entry))
 entry_noted tally m l entry limits there standing = noted_entry tally m l entry (standing_there tally m l limits there standing)
 
--- an entry that is noted in the totals of those before it
+-- the change of an entry that is noted in the totals of the entries before it
 abbrev pub first_change : Tally → ℕ → ℕ → ℕ → Change
 first_change tally m l votes = record { constituency = constituency_of tally.canton m; list = l; before = 0; after = votes }
 

@@ -37,7 +37,7 @@ use Rattle.zh_totals.proofs.NotingLemmas.{with_entry}
 use Rattle.zh_totals.proofs.RestrictingLemmas.{same_tally}
 use Rattle.zh_totals.proofs.ChangeLemmas.{entry_noted, votes_can}
 
--- a key with what it holds put over it is as it was
+-- a count does not change if what is held under a key is put there again
 get_put : (tally : Tally) (m l : ℕ) (entry : Entry) (key : ℕ × ℕ) (here : Bool) → held tally m l ≡ Some entry → eq_by_cmp key_cmp key (m, l)
     ≡ here → cond here (Some entry) (map_of.get tally.entries key) ≡ map_of.get tally.entries key
 get_put tally m l entry key true is same = sym (ap (map_of.get tally.entries) (keys_equal key (m, l) same) ∙ is)
@@ -49,7 +49,7 @@ held_put tally m l entry is =
     map_of.get-insert keys_total tally.entries (m, l) entry key
     ∙ get_put tally m l entry key (eq_by_cmp key_cmp key (m, l)) is refl)
 
--- a row changes against the rows before it what it changes against the count before the batch
+-- a row makes the same change to the count after the rows before it as to the count before the batch
 row_change_still : (origin : Origin) (tally : Tally) (rows : List Row) (i : ℕ) (row : Row) → IsBatch rows → slice_get rows i ≡ Some row
     → change_to (upto origin tally rows i) row.municipality row.list row.votes ≡ row_change tally row
 row_change_still origin tally rows i row batch is =
@@ -60,7 +60,7 @@ row_change_still origin tally rows i row batch is =
       after = row.votes;
     }) (held_still origin tally rows i row batch is)
 
--- rows that a count accepts leave it within its limits
+-- after rows that it accepts, a count is still within its limits
 more_limits : (origin : Origin) (tally : Tally) (rows : List Row) (i : ℕ) (row : Row) (accepted : Bool) → is_accept (judge_row tally row)
     ≡ accepted → slice_get rows i ≡ Some row → IsOriginOf Two origin → IsSpeakableRow row → MayStand tally.canton row
     → IsTally (upto origin tally rows i) → IsTally (upto origin tally rows (i + 1))
@@ -85,7 +85,7 @@ IsTally-upto origin tally rows (suc i) named limits batch accepted within =
       | inr past ↦ absurd (omega arith)
     ]
 
--- a row that is held already changes no total
+-- a row that is already held changes no total
 held_noted : (tally : Tally) (row : Row) → IsTally tally → MayStand tally.canton row → IsHeld (held tally row.municipality row.list)
     row.number row.votes → totals_of tally ≡ noted (totals_of tally) (row_change tally row)
 held_noted tally row limits may same =
@@ -94,7 +94,7 @@ held_noted tally row limits may same =
     ∙ entry_noted tally row.municipality row.list same.entry limits there.0 there.1
     ∙ ap (λ content. noted (totals_of tally) (change_to tally row.municipality row.list (unwrap_or content 0))) same.votes_are
 
--- the totals with one row more of a batch are those before it with its change noted
+-- the totals after one more row of a batch are those before it, with the row's change noted
 row_judged : (origin : Origin) (tally : Tally) (rows : List Row) (i : ℕ) (row : Row) (verdict : Verdict) → IsTally (upto origin tally rows i)
     → IsBatch rows → slice_get rows i ≡ Some row → MayStand tally.canton row → judge_row tally row ≡ verdict → is_refusal verdict ≡ false →
     totals_of (upto origin tally rows (i + 1)) ≡ noted (totals_of (upto origin tally rows i)) (row_change (upto origin tally rows i) row)
@@ -108,7 +108,7 @@ row_judged origin tally rows i row Same limits batch is may judged fine =
     subst (λ entry. IsHeld entry row.number row.votes) (sym (held_still origin tally rows i row batch is)) (row_held tally row judged))
 row_judged origin tally rows i row (Refused reason) limits batch is may judged fine = absurd (true≢false fine)
 
--- so the totals can take a row after those before it
+-- so the totals can take the next row
 pub record IsRowTaken (before next : Tally) (change : Change) : Type 0 where
   pub can : IsChange (totals_of before) change
   pub after : totals_of next ≡ noted (totals_of before) change
@@ -142,7 +142,7 @@ rows_noted origin tally rows (suc i) named limits batch accepted within =
       | inr past ↦ absurd (omega arith)
     ]
 
--- what an accepted content changes: the totals of a count can take it, and have the count with it then
+-- the totals of a count can take the change of an accepted content and are then those of the count with this content
 pub record IsTaken (tally : Tally) (m l : ℕ) (entry : Entry) : Type 0 where
   pub can : IsChange (totals_of tally) (change_to tally m l (votes_of entry))
   pub after : totals_of (with_entry tally m l entry) ≡ noted (totals_of tally) (change_to tally m l (votes_of entry))
@@ -160,7 +160,7 @@ taken tally m l entry limits accepted =
       after = entry_noted tally m l entry limits there.0 there.1;
     }
 
--- after an accepted command the totals are those before it with each of its changes noted
+-- after an accepted command, the totals are those before it, with each of its changes noted
 pub command_noted : (tally : Tally) (command : Command) → IsTally tally → HasNumbers command → judge tally command ≡ Accept
     → totals_of (changed tally command) ≡ all_noted (totals_of tally) (changes_of tally command)
 command_noted tally (commands.Return desk row) limits numbers accepted =

@@ -14,7 +14,7 @@ use Rattle.zh_totals.specs.Counting.{votes_of}
 abbrev pub passing : (ℕ × ℕ → Bool) → List ((ℕ × ℕ) × Entry) → ℕ
 passing p es = sum_by (λ e. votes_of e.1) (filter (λ e. p e.0) es)
 
--- the votes of what was found, none where nothing was
+-- the votes of what was found, 0 if nothing was
 abbrev pub votes_found : Option Entry → ℕ
 votes_found found = option_map_or votes_of found 0
 
@@ -48,7 +48,7 @@ no_votes : (b : Bool) → ◌≡◌ {A = ℕ} (cond b 0 0) 0
 no_votes true = refl
 no_votes false = refl
 
--- an entry that is put over what stands under its key: its votes come, and those that stood there go
+-- if an entry replaces what is under its key, its votes are added, and those that were there are taken away
 pub passing_put : (p : ℕ × ℕ → Bool) (k : ℕ × ℕ) (v : Entry) (es : List ((ℕ × ℕ) × Entry)) → is_sorted key_cmp es ≡ true →
     passing p (put key_cmp k v es) + cond (p k) (votes_found (find key_cmp k es)) 0 ≡ passing p es + cond (p k) (votes_of v) 0
 passing_put p k v [] sorted = omega (arith, passing_first p (k, v) [], no_votes (p k))
@@ -75,7 +75,7 @@ passing_put p k v (e ∷ es) sorted =
           omega arith
     ] refl
 
--- what stands under a key is among the votes
+-- the votes under a key are among those of all entries
 pub found_in_passing : (p : ℕ × ℕ → Bool) (k : ℕ × ℕ) (es : List ((ℕ × ℕ) × Entry)) → p k ≡ true → votes_found (find key_cmp k es) ≤ passing p es
 found_in_passing p k [] passes = omega arith
 found_in_passing p k (e ∷ es) passes =

@@ -10,7 +10,7 @@ use Rattle.zh_totals.specs.GivenVotes.{AreRowSums, votes_from, votes_of_rows}
 use Rattle.zh_totals.specs.Inside.{AreConstituencies}
 use Rattle.zh_totals.specs.Totals.{AreTotals, VoteTotals, all_votes, constituency_votes, votes_in}
 
--- fewer terms sum to no more
+-- a sum of fewer terms is not greater
 pub sum_to-fewer : (n m : ℕ) (f : ℕ → ℕ) → n ≤ m → sum_to n f ≤ sum_to m f
 sum_to-fewer n zero f le = let none : n ≡ 0 = omega arith in rw none (omega arith)
 sum_to-fewer n (suc m) f le = elim (cases_eq n (suc m)) [
@@ -32,18 +32,18 @@ all_rows totals =
     sum_to-ext (length totals.canton.constituencies) (λ i. constituency_votes totals (i + 1)) (λ d. votes_from totals.votes (d * length totals.canton.groups) (length totals.canton.groups)) (λ d lt.
     row_votes totals d)
 
--- sums of the rows are those of the constituencies
+-- the sums of the rows are those of the constituencies
 pub row_sums_are : (totals : VoteTotals) (sums : List ℕ) → AreRowSums totals.votes (length totals.canton.groups) (length totals.canton.constituencies) sums →
     AreConstituencies totals sums
 row_sums_are totals sums are = record { one_each = are.one_each; votes = λ d lt. are.each d lt ∙ sym (row_votes totals d) }
 
--- and within the limits
+-- the totals are within their limits
 pub given_totals : (totals : VoteTotals) (sums : List ℕ) → IsCanton totals.canton →
     length totals.votes ≡ length totals.canton.constituencies * length totals.canton.groups →
     AreRowSums totals.votes (length totals.canton.groups) (length totals.canton.constituencies) sums → AreTotals totals
 given_totals totals sums canton one_each are = record { canton = canton; one_each = one_each; most = omega (arith, all_rows totals, are.most) }
 
--- one row more
+-- one more row
 pub row_added : (votes : List ℕ) (columns n : ℕ) (before after : List ℕ) (sum : ℕ) → AreRowSums votes columns n before →
     sum ≡ votes_from votes (n * columns) columns → votes_of_rows votes columns n + sum ≤ 10 ^ 14 → after ≡ before ++ sum ∷ [] →
     AreRowSums votes columns (n + 1) after

@@ -29,7 +29,7 @@ later_found e es k entry before is =
     absurd (cc)) in
     ap (λ b. cond b (Some e.1) (find key_cmp k es)) other ∙ is
 
--- where no key that is found passes a test, the entries that pass it have no votes
+-- if no key that is found passes a test, the entries that pass it have no votes
 none_passing : (p : ℕ × ℕ → Bool) (es : List ((ℕ × ℕ) × Entry)) → is_sorted key_cmp es ≡ true →
     ((k : ℕ × ℕ) (entry : Entry) → find key_cmp k es ≡ Some entry → p k ≡ false) → passing p es ≡ 0
 none_passing p [] sorted none = refl
@@ -39,7 +39,7 @@ none_passing p (e ∷ es) sorted none =
     let rest : passing p es ≡ 0 = none_passing p es parts.1 (λ k entry is. none k entry (later_found e es k entry parts.0 is)) in
     omega (arith, passing_first p e es)
 
--- no entry that is held lies where its list does not stand
+-- no entry is held where its list does not stand
 none_lies : (tally : Tally) (d g : ℕ) (k : ℕ × ℕ) (entry : Entry) → IsTally tally → stands tally.canton d g ≡ false →
     held tally k.0 k.1 ≡ Some entry → lies_in tally.canton d g k ≡ false
 none_lies tally d g k entry limits not is =

@@ -1,4 +1,4 @@
--- The totals of a count with one entry more.
+-- The totals of a count with one more entry.
 use Rattle.std.proofs.Common.{◌≡◌, ◌∙◌, ℕ, ◌+◌, ◌-◌, ◌*◌, ◌≤◌, ◌<◌, ◌==◌, Bool, true, false, cond, T, length, get_or, set, sym, ap, subst}
 use Rattle.std.proofs.Common.{refl, arith, inl, inr, length-set, get_or-set_same, get_or-set_other}
 use Rattle.std.specs.FinMap as map_of
@@ -15,7 +15,7 @@ use Rattle.zh_totals.specs.Changes.{noted, sum_after, votes_held, change_to}
 use Rattle.zh_totals.proofs.EntryLemmas.{passing, votes_found, passing_put, found_in_passing}
 use Rattle.zh_totals.proofs.PlaceLemmas.{table, length-table, at_table, place_within, other_place, same_table}
 
--- a count with an entry put over what is held under its key
+-- a count with an entry in place of what is held under its key
 abbrev pub with_entry : Tally → ℕ → ℕ → Entry → Tally
 with_entry tally municipality list entry = record tally { entries = map_of.insert tally.entries (municipality, list) entry }
 
@@ -23,7 +23,7 @@ pub is_true : (b : Bool) → T b → b ≡ true
 is_true true t = refl
 is_true false t = absurd t
 
--- the sum of d and g, after an entry
+-- the votes of group g in constituency d, after an entry is put in
 counted_insert : (tally : Tally) (m l : ℕ) (entry : Entry) (d g : ℕ) →
     counted (with_entry tally m l entry) d g + cond (lies_in tally.canton d g (m, l)) (votes_held tally m l) 0 ≡ counted tally d g + cond (lies_in tally.canton d g (m, l)) (votes_of entry) 0
 counted_insert tally m l entry d g =
@@ -39,7 +39,7 @@ counted_insert tally m l entry d g =
 lies_there : (canton : Canton) (d g m l : ℕ) → constituency_of canton m ≡ d → l ≡ g → lies_in canton d g (m, l) ≡ true
 lies_there canton d g m l constituency list = and_from (constituency_of canton m == d) (l == g) (eq-eqb (constituency_of canton m) d constituency) (eq-eqb l g list)
 
--- what is held is within its sum
+-- the votes held under a key are at most their sum
 pub held_counted : (tally : Tally) (m l : ℕ) → votes_held tally m l ≤ counted tally (constituency_of tally.canton m) l
 held_counted tally m l =
     let d = constituency_of tally.canton m in
@@ -72,12 +72,12 @@ votes_counted tally d g from_one within group_from_one group_within =
     at_table (counted tally) (length tally.canton.constituencies) (length tally.canton.groups) (d - 1) (g - 1) (omega arith) (omega arith)
     ∙ ap (λ n. counted tally n (g - 1 + 1)) row ∙ ap (counted tally d) column
 
--- a key of the set-up: its constituency and its list are there
+-- a key of the set-up: its constituency and its list are in the set-up
 pub record IsThere (canton : Canton) (m l : ℕ) : Type 0 where
   pub constituency : (1 ≤ constituency_of canton m) × (constituency_of canton m ≤ length canton.constituencies)
   pub list : (1 ≤ l) × (l ≤ length canton.groups)
 
--- one entry more is one change noted
+-- one more entry is one more change that is noted
 pub noted_entry : (tally : Tally) (m l : ℕ) (entry : Entry) → IsThere tally.canton m l →
     totals_of (with_entry tally m l entry) ≡ noted (totals_of tally) (change_to tally m l (votes_of entry))
 noted_entry tally m l entry there =

@@ -1,4 +1,4 @@
--- The places of a table that is kept row by row.
+-- The places of a table that is stored row by row.
 use Rattle.std.proofs.Common.{◌≡◌, ℕ, suc, ◌+◌, ◌*◌, ◌/◌, ◌%◌, ◌<◌, ◌≤◌, ◌∙◌, List, length, get_or, map, sym, ap, inl, inr, arith}
 use Rattle.std.proofs.Common.{div-add-mod', mod-lt, div-lt_iff_lt-mul, mul_comm, mul-le-mul_right, suc-mul}
 use Rattle.std.proofs.lemmas.Bool.{cases_lt}
@@ -7,15 +7,15 @@ use Rattle.std.specs.Prelude.{flat_map}
 use Rattle.zh_returns.specs.Payload.{numbers}
 use Rattle.zh_returns.proofs.CallerLemmas.{HasWidth, length-blocks, in_block, length-numbers, get_or-numbers}
 
--- a row after a row that is not later ends at or after its start
+-- a row ends before each later row starts
 pub row_before : (c d e : ℕ) → d < e → d * c + c ≤ e * c
 row_before c d e less = let rows : suc d * c ≤ e * c = mul-le-mul_right c less in omega (arith, suc-mul d c)
 
--- a place in a table
+-- the place of a cell is within the table
 pub place_within : (rows c d g : ℕ) → d < rows → g < c → d * c + g < rows * c
 place_within rows c d g row column = omega (arith, row_before c d rows row)
 
--- another row or column is another place
+-- different rows or columns have different places
 pub other_place : (c d g e h : ℕ) → g < c → h < c → d * c + g ≡ e * c + h → (d ≡ e) × (g ≡ h)
 other_place c d g e h first second same =
     elim (cases_lt d e) [

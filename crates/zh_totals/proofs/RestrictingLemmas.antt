@@ -16,7 +16,7 @@ use Rattle.zh_totals.specs.Changes.{votes_held}
 use Rattle.zh_totals.specs.Parts.{is_before, held_before}
 use Rattle.zh_totals.proofs.NotingLemmas.{with_entry}
 
--- what it holds
+-- what the entries before a key hold
 pub get_before : (tally : Tally) (m l : ℕ) (key : ℕ × ℕ) → map_of.get (held_before tally m l).entries key ≡ cond (is_before m l key) (map_of.get tally.entries key) None
 get_before tally m l key = map_of.get-retain_keys tally.entries (is_before m l) key (λ other same. ap (is_before m l) (sym (exact_keys key other same)))
 
@@ -36,7 +36,7 @@ nothing : (a : Bool) → ◌≡◌ {A = Option Entry} (cond a None None) None
 nothing true = refl
 nothing false = refl
 
--- tests that agree on what is held
+-- two tests that agree on what is held
 agree : (a b : Bool) (h : Option Entry) → ((entry : Entry) → h ≡ Some entry → a ≡ b) → cond a h None ≡ cond b h None
 agree a b None same = nothing a ∙ sym (nothing b)
 agree a b (Some entry) same = ap (λ (t : Bool). cond t (Some entry) None) (same entry refl)
@@ -46,7 +46,7 @@ pub same_tally : (tally : Tally) (a b : map_of.FinMap key_cmp Entry) → ((key :
     → ◌≡◌ {A = Tally} (record tally { entries = a }) (record tally { entries = b })
 same_tally tally a b same = ap (λ entries. record tally { entries = entries }) (map_of.same_map keys_total exact_keys a b same)
 
--- two restrictions that agree on the keys that are held are one
+-- the entries before two keys are the same if the keys that are held do not tell them apart
 same_before : (tally : Tally) (m l n k : ℕ) → IsTally tally → ((key : ℕ × ℕ) → IsHeld tally key → is_before m l key ≡ is_before n k key) → held_before tally m l ≡ held_before tally n k
 same_before tally m l n k limits same =
     same_tally tally (held_before tally m l).entries (held_before tally n k).entries (λ key.
@@ -61,7 +61,7 @@ row_ends m a b g from_one within = grind (arith, nat_tests)
 pub next_municipality : (tally : Tally) (m : ℕ) → IsTally tally → held_before tally m (length tally.canton.groups + 1) ≡ held_before tally (m + 1) 1
 next_municipality tally m limits = same_before tally m (length tally.canton.groups + 1) (m + 1) 1 limits (λ key held. row_ends m key.0 key.1 (length tally.canton.groups) held.list.0 held.list.1)
 
--- before the first key there is none
+-- no key comes before the first one
 none_before_first : (a b : ℕ) → 1 ≤ a → 1 ≤ b → is_before 1 1 (a, b) ≡ false
 none_before_first a b municipality list = grind (arith, nat_tests)
 
@@ -72,7 +72,7 @@ before_first tally limits =
     ∙ agree (is_before 1 1 key) false (map_of.get tally.entries key) (λ entry is. let held = is_held tally key entry limits is in none_before_first key.0 key.1 held.municipality.0 held.list.0)
     ∙ sym (map_of.get-empty key_cmp key))
 
--- after the last key all are there
+-- all keys come before the end
 all_before_last : (m a b : ℕ) → a ≤ m → is_before (m + 1) 1 (a, b) ≡ true
 all_before_last m a b within = grind (arith, nat_tests)
 
@@ -84,11 +84,11 @@ after_last tally limits =
     (λ entry is. let held = is_held tally key entry limits is in all_before_last (length tally.canton.municipalities) key.0 key.1
     held.municipality.1))
 
--- the next list takes its own key in
+-- before the next list comes one more key
 one_more : (m l a b : ℕ) → is_before m (l + 1) (a, b) ≡ ((a == m && b == l) || is_before m l (a, b))
 one_more m l a b = grind (arith, nat_tests)
 
--- not before itself
+-- a key does not come before itself
 not_before_itself : (m l : ℕ) → is_before m l (m, l) ≡ false
 not_before_itself m l = grind (arith, nat_tests)
 
@@ -100,7 +100,7 @@ left_out : (this before : Bool) (h : Option Entry) → (this ≡ true → h ≡ 
 left_out true before h is = is refl ∙ sym (nothing before) ∙ ap (λ o. cond before o None) (sym (is refl))
 left_out false before h is = refl
 
--- the entry of a key comes with it
+-- before the next list comes the entry of this key, too
 pub next_held : (tally : Tally) (m l : ℕ) (entry : Entry) → held tally m l ≡ Some entry → held_before tally m (l + 1) ≡ with_entry (held_before tally m l) m l entry
 next_held tally m l entry is =
     same_tally tally (held_before tally m (l + 1)).entries (with_entry (held_before tally m l) m l entry).entries (λ key.
@@ -118,11 +118,11 @@ next_not_held tally m l is =
     ∙ left_out (eq_by_cmp key_cmp key (m, l)) (is_before m l key) (map_of.get tally.entries key) (λ same. ap (map_of.get tally.entries) (keys_equal key (m, l) same) ∙ is)
     ∙ sym (get_before tally m l key))
 
--- nothing is held there before it
+-- among the entries before a key, nothing is held under the key
 pub none_held_yet : (tally : Tally) (m l : ℕ) → votes_held (held_before tally m l) m l ≡ 0
 none_held_yet tally m l = ap (λ h. option_map_or votes_of h 0) (get_before tally m l (m, l) ∙ ap (λ b. cond b (map_of.get tally.entries (m, l)) None) (not_before_itself m l))
 
--- a part of a count keeps its limits
+-- a part of a count is within the limits
 part_of : (P : Entry → Type 0) (b : Bool) (h : Option Entry) → IfSome h P → IfSome (cond b h None) P
 part_of P true h is = is
 part_of P false h is = tt

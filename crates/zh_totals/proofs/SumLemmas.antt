@@ -1,10 +1,10 @@
--- A finite sum of which one number changes.
+-- A finite sum in which one number changes.
 use Rattle.std.proofs.Common.{◌≡◌, ◌≢◌, ℕ, zero, suc, ◌+◌, ◌<◌, inl, inr, arith}
 use Rattle.std.proofs.lemmas.Bool.{cases_lt}
 use Rattle.zh_divisors.specs.Sums.{sum_to}
 use Rattle.zh_divisors.proofs.CallerLemmas.{sum_to-ext}
 
--- where one number is another, the sum differs by it alone
+-- if one number changes, the sum changes by as much
 pub sum_to_changed : (n k : ℕ) (f g : ℕ → ℕ) → k < n → ((i : ℕ) → i < n → i ≢ k → f i ≡ g i) → sum_to n g + f k ≡ sum_to n f + g k
 sum_to_changed zero k f g within same = absurd (omega arith)
 sum_to_changed (suc n) k f g within same =

@@ -23,14 +23,14 @@ constituency_within totals d from_one there =
     let here : constituency_votes totals (d - 1 + 1) ≡ constituency_votes totals d = ap (constituency_votes totals) number in
     omega (arith, term-le-sum_to (length totals.canton.constituencies) (λ i. constituency_votes totals (i + 1)) (d - 1) (omega arith))
 
--- so neither has too many
+-- so neither has more than 10^14
 pub constituency_most : (totals : VoteTotals) (d : ℕ) → AreTotals totals → 1 ≤ d → d ≤ length totals.canton.constituencies → constituency_votes totals d ≤ 10 ^ 14
 constituency_most totals d are from_one there = omega (arith, constituency_within totals d from_one there, are.most)
 
 pub group_most : (totals : VoteTotals) (d g : ℕ) → AreTotals totals → 1 ≤ d → d ≤ length totals.canton.constituencies → 1 ≤ g → g ≤ length totals.canton.groups → votes_in totals d g ≤ 10 ^ 14
 group_most totals d g are from_one there group_from_one group_there = omega (arith, group_within totals d g group_from_one group_there, constituency_most totals d are from_one there)
 
--- a change whose list is there, and whose votes before it are among those of its sum
+-- a change whose list is in the set-up, and whose votes before it are within their sum
 pub record CanNote (totals : VoteTotals) (change : Change) : Type 0 where
   pub one_each : length totals.votes ≡ length totals.canton.constituencies * length totals.canton.groups
   pub constituency : (1 ≤ change.constituency) × (change.constituency ≤ length totals.canton.constituencies)
@@ -40,19 +40,19 @@ pub record CanNote (totals : VoteTotals) (change : Change) : Type 0 where
 pub can_note : (totals : VoteTotals) (change : Change) → AreTotals totals → IsChange totals change → CanNote totals change
 can_note totals change are is = record { one_each = are.one_each; constituency = is.constituency; list = is.list; before = is.before }
 
--- the sum of the change
+-- the sum of the change, afterwards
 pub noted_here : (totals : VoteTotals) (change : Change) → CanNote totals change → votes_in (noted totals change) change.constituency change.list ≡ sum_after totals change
 noted_here totals change can =
     let place = place_in totals.canton change.constituency change.list in
     let inside = place_within (length totals.canton.constituencies) (length totals.canton.groups) (change.constituency - 1) (change.list - 1) (omega arith) (omega arith) in
     get_or-set_same totals.votes place (sum_after totals change) 0 (omega arith)
 
--- another place
+-- another sum, afterwards
 noted_there : (totals : VoteTotals) (change : Change) (d g : ℕ) → place_in totals.canton d g ≢ place_in totals.canton change.constituency
     change.list → votes_in (noted totals change) d g ≡ votes_in totals d g
 noted_there totals change d g other = get_or-set_other totals.votes (place_in totals.canton change.constituency change.list) (place_in totals.canton d g) (sum_after totals change) 0 other
 
--- the votes of the change's constituency
+-- the votes of the change's constituency, afterwards
 pub noted_constituency : (totals : VoteTotals) (change : Change) → CanNote totals change →
     constituency_votes (noted totals change) change.constituency + change.before ≡ constituency_votes totals change.constituency + change.after
 noted_constituency totals change can =
@@ -65,7 +65,7 @@ noted_constituency totals change can =
     (λ i lt other. sym (noted_there totals change d (i + 1) (λ same. other (omega arith)))) in
     omega arith
 
--- those of another constituency
+-- the votes of another constituency, afterwards
 pub noted_elsewhere : (totals : VoteTotals) (change : Change) (d : ℕ) → CanNote totals change → 1 ≤ d → d ≢ change.constituency
     → constituency_votes (noted totals change) d ≡ constituency_votes totals d
 noted_elsewhere totals change d can from_one other =
@@ -74,7 +74,7 @@ noted_elsewhere totals change d can from_one other =
     let parts = other_place (length totals.canton.groups) (d - 1) (i + 1 - 1) (change.constituency - 1) (change.list - 1) (omega arith) (omega arith) same in
     other (omega arith)))
 
--- all votes together
+-- all votes together, afterwards
 pub noted_all : (totals : VoteTotals) (change : Change) → CanNote totals change → all_votes (noted totals change) + change.before ≡ all_votes totals + change.after
 noted_all totals change can =
     let number : change.constituency - 1 + 1 ≡ change.constituency = omega arith in
@@ -87,7 +87,7 @@ noted_all totals change can =
     (λ i lt other. sym (noted_elsewhere totals change (i + 1) can (omega arith) (omega arith))) in
     omega arith
 
--- totals within their limits are so after a change that they can take
+-- totals within their limits stay within them after a change that they can take
 pub AreTotals-noted : (totals : VoteTotals) (change : Change) → AreTotals totals → IsChange totals change → AreTotals (noted totals change)
 AreTotals-noted totals change are is = record {
   canton = are.canton;
@@ -95,14 +95,14 @@ AreTotals-noted totals change are is = record {
   most = is.most;
 }
 
--- the votes that are kept of a constituency
+-- the stored votes of a constituency
 pub constituency_at : (totals : VoteTotals) (sums : List ℕ) (d : ℕ) → AreConstituencies totals sums → 1 ≤ d
     → d ≤ length totals.canton.constituencies → slice_index sums (d - 1) ≡ constituency_votes totals d
 constituency_at totals sums d are from_one there =
     let number : d - 1 + 1 ≡ d = omega arith in
     are.votes (d - 1) (omega arith) ∙ ap (constituency_votes totals) number
 
--- those of the change's constituency are changed like its sum
+-- the stored votes of the change's constituency change like its sum
 pub AreConstituencies-noted : (totals : VoteTotals) (sums : List ℕ) (change : Change) → AreConstituencies totals sums → CanNote totals change →
     AreConstituencies (noted totals change) (set sums (change.constituency - 1) (slice_index sums (change.constituency - 1) - change.before + change.after))
 AreConstituencies-noted totals sums change are can =
@@ -146,7 +146,7 @@ fields_noted totals sums change place votes constituencies are kept is place_is 
       constituencies_are = AreConstituencies-noted totals sums change kept (can_note totals change are is);
     }))
 
--- the votes that are kept of the change's constituency have those before it, and are not too many
+-- the stored votes of the change's constituency include those before it and are at most 10^14
 pub constituency_kept : (totals : VoteTotals) (sums : List ℕ) (change : Change) → AreTotals totals → AreConstituencies totals sums → IsChange totals change →
     (change.before ≤ slice_index sums (change.constituency - 1)) × (slice_index sums (change.constituency - 1) ≤ 10 ^ 14)
 constituency_kept totals sums change are kept is =

@@ -10,11 +10,11 @@ use Rattle.zh_totals.specs.declared.totals.Change.{Change}
 use Rattle.zh_totals.specs.Totals.{VoteTotals, place_in, votes_in, all_votes}
 use Rattle.zh_totals.specs.Counting.{votes_of}
 
--- a sum with the votes before the change taken away and those after it added
+-- the sum, less the votes before the change, plus those after it
 abbrev pub sum_after : VoteTotals → Change → ℕ
 sum_after totals change = votes_in totals change.constituency change.list - change.before + change.after
 
--- the totals after a change: this sum is replaced, the others stay
+-- the totals after a change: one sum is replaced, the others do not change
 abbrev pub noted : VoteTotals → Change → VoteTotals
 noted totals change = record totals {
   votes = set totals.votes (place_in totals.canton change.constituency change.list) (sum_after totals change);
@@ -24,8 +24,8 @@ noted totals change = record totals {
 abbrev pub all_noted : VoteTotals → List Change → VoteTotals
 all_noted = fold noted
 
--- a change that totals can take: of a list of the set-up, from no more votes than the sum has, to no more than a return
--- may have, and not too many in all
+-- a change that totals can take: of a list of the set-up, from at most the votes of its sum, to at most the votes of a return,
+-- and with at most 10^14 votes in all afterwards
 pub record IsChange (totals : VoteTotals) (change : Change) : Type 0 where
   pub constituency : (1 ≤ change.constituency) × (change.constituency ≤ length totals.canton.constituencies)
   pub list : (1 ≤ change.list) × (change.list ≤ length totals.canton.groups)
@@ -33,11 +33,11 @@ pub record IsChange (totals : VoteTotals) (change : Change) : Type 0 where
   pub after : change.after ≤ 1000000000
   pub most : all_votes (noted totals change) ≤ 10 ^ 14
 
--- the votes held under a key, none where there is nothing
+-- the votes held under a key, 0 if nothing is held
 abbrev pub votes_held : Tally → ℕ → ℕ → ℕ
 votes_held tally municipality list = option_map_or votes_of (held tally municipality list) 0
 
--- from the votes held under a key to these
+-- the change from the votes held under a key to these votes
 abbrev pub change_to : Tally → ℕ → ℕ → ℕ → Change
 change_to tally municipality list votes = record {
   constituency = constituency_of tally.canton municipality;
@@ -50,7 +50,7 @@ change_to tally municipality list votes = record {
 abbrev pub row_change : Tally → Row → Change
 row_change tally row = change_to tally row.municipality row.list row.votes
 
--- what an accepted command changes, against the count before it
+-- the changes that an accepted command makes to the count before it
 abbrev pub changes_of : Tally → Command → List Change
 changes_of tally (commands.Return desk row) = row_change tally row ∷ []
 changes_of tally (commands.Withdraw desk municipality list number) = change_to tally municipality list 0 ∷ []

@@ -19,7 +19,7 @@ lies_in canton d g key = constituency_of canton key.0 == d && key.1 == g
 abbrev pub counted : Tally → ℕ → ℕ → ℕ
 counted tally d g = sum_by (λ e. votes_of e.1) (filter (λ e. lies_in tally.canton d g e.0) (map_of.entries tally.entries))
 
--- these, of each group in each constituency
+-- the votes of each group in each constituency
 abbrev pub totals_of : Tally → VoteTotals
 totals_of tally = record {
   canton = tally.canton;

@@ -1,4 +1,4 @@
--- What the fields of totals stand for.
+-- What the fields of totals mean.
 use Rattle.std.specs.Prelude.{◌≡◌, ℕ, ◌+◌, ◌<◌, List, length, slice_index}
 use Rattle.zh_totals.specs.Totals.{VoteTotals, AreTotals, constituency_votes}
 use Rattle.zh_totals.specs.declared.totals.Totals.TheInside.{Inside}
@@ -6,7 +6,7 @@ use Rattle.zh_totals.specs.declared.totals.Totals.TheInside.{Inside}
 abbrev pub totals_in : Inside → VoteTotals
 totals_in t = record { canton = t.setup.now; votes = t.votes.items }
 
--- of each constituency its votes
+-- the votes of each constituency
 pub record AreConstituencies (totals : VoteTotals) (sums : List ℕ) : Type 0 where
   pub one_each : length sums ≡ length totals.canton.constituencies
   pub votes : (i : ℕ) → i < length totals.canton.constituencies → slice_index sums i ≡ constituency_votes totals (i + 1)

@@ -3,7 +3,7 @@ use Rattle.std.specs.Prelude.{◌≡◌, ℕ, ◌+◌, ◌-◌, ◌*◌, ◌^◌
 use Rattle.zh_districts.specs.Canton.{Canton, IsCanton}
 use Rattle.zh_divisors.specs.Sums.{sum_to}
 
--- the set-up, and constituency by constituency one sum of votes for each group
+-- the set-up, and one sum of votes for each group, constituency by constituency
 pub record VoteTotals : Type 0 where
   pub canton : Canton
   pub votes : List ℕ
@@ -24,7 +24,7 @@ constituency_votes totals d = sum_to (length totals.canton.groups) (λ i. votes_
 abbrev pub all_votes : VoteTotals → ℕ
 all_votes totals = sum_to (length totals.canton.constituencies) (λ i. constituency_votes totals (i + 1))
 
--- a sum for each group in each constituency, and not too many votes
+-- one sum for each group in each constituency, and at most 10^14 votes in all
 pub record AreTotals (totals : VoteTotals) : Type 0 where
   pub canton : IsCanton totals.canton
   pub one_each : length totals.votes ≡ length totals.canton.constituencies * length totals.canton.groups

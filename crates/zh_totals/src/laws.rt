@@ -16,8 +16,8 @@ ghost use Rattle.zh_totals.specs.Counting.{totals_of, votes_of};
 ghost use Rattle.zh_totals.specs.Hidden.{NoneHidden};
 ghost use Rattle.zh_totals.specs.Totals.{AreTotals};
 
-/// After an accepted command the totals are those before it with each of its changes noted, one after the other; and
-/// with one entry put over what is held, those before it with this change noted.
+/// After an accepted command, the totals are those before it, with each of its changes noted, one after another. If one entry
+/// replaces what is held under its key, the totals are those before it, with this change noted.
 pub fn changes_are_noted()
     ensures command { (tally : Tally) (command : Command) → IsTally tally → HasNumbers command → judge tally command ≡ Accept
         → totals_of (changed tally command) ≡ all_noted (totals_of tally) (changes_of tally command) }

@@ -17,8 +17,7 @@ use std::marker::Model;
 use zh_districts::Setup;
 use zh_returns::{Command, Count};
 
-/// A count, and its totals, which each change of it brings up to date. The memory is taken in `new`, and no other call
-/// takes any.
+/// A count and its totals, which every change of the count updates. `new` allocates all memory; no other call allocates any.
 #[derive(Drop)]
 pub struct RunningCount<'s> {
     count: Count<'s>,
@@ -43,7 +42,7 @@ impl<'s> Model for RunningCount<'s> {
 }
 
 impl<'s> RunningCount<'s> {
-    /// The count of an election before its first return.
+    /// The empty count of an election. Fails if memory is refused.
     pub fn new(alloc: Global, setup: &'s Setup) -> Result<RunningCount<'s>, AllocError>
         ensures { IfOk result (λ running. running ≡ empty setup.now) }
     {
@@ -53,22 +52,22 @@ impl<'s> RunningCount<'s> {
         })
     }
 
-    /// The count as it is now.
+    /// The current count.
     pub fn count(&self) -> &Count<'s>
         ensures { result.now ≡ self.now }
     {
         &self.count
     }
 
-    /// The totals of the count as it is now.
+    /// The totals of the current count.
     pub fn totals(&self) -> &Totals<'s>
         ensures { result.now ≡ totals_of self.now }
     {
         &self.totals
     }
 
-    /// Becomes the count for the set-up that has these bytes, as `Count::decode` does, from the count before the first
-    /// return.
+    /// Replaces this count, which must be empty, with the one that has these bytes, as `Count::decode` does, together with its
+    /// totals. If there is none, returns false and stays empty.
     pub fn decode(&mut self, bytes: &[u8]) -> bool
         requires { self.old ≡ empty self.old.canton }
         ensures { TakesPayload self.old bytes.now result self.new }
@@ -80,7 +79,7 @@ impl<'s> RunningCount<'s> {
         is_read
     }
 
-    /// Applies a command, which has been judged and is accepted, to the count and its totals, and counts it.
+    /// Applies an accepted command, which is then counted, to the count and its totals.
     pub fn apply(&mut self, command: &Command<'_>)
         requires origin { IsOriginOf Format.Two (origin_of command.now) }
         requires accept { judge self.old command.now ≡ Accept }
@@ -93,14 +92,14 @@ impl<'s> RunningCount<'s> {
 }
 
 impl<'s> Totals<'s> {
-    /// Notes what a command that the count accepts changes there, before it is applied to the count.
+    /// Notes the changes that an accepted command makes, before the command is applied to the count.
     fn note_command(&mut self, count: &Count<'_>, command: &Command<'_>)
         requires origin { IsOriginOf Format.Two (origin_of command.now) }
         requires accept { judge count.now command.now ≡ Accept }
         requires totals { self.old ≡ totals_of count.now }
         ensures { self.new ≡ totals_of (changed count.now command.now) }
     {
-        // A count is within its limits, however many commands it accepted.
+        // This call is made for what it ensures: the count is within its limits.
         count.accepted();
         match command {
             Command::Return { row, .. } => {
@@ -113,7 +112,7 @@ impl<'s> Totals<'s> {
             } => self.note_votes(count, *municipality, *list, 0),
             Command::Close { .. } => {}
             Command::Reopen { .. } => {}
-            // Each row has a key of its own, so what the count holds there is what was held before the batch.
+            // No two rows have the same key, so what the count holds there is what was held before the batch.
             Command::Batch { rows, .. } => {
                 for i in 0..rows.len() {
                     let row = rows.get(i);

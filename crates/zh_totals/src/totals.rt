@@ -14,8 +14,8 @@ use std::marker::Model;
 use zh_districts::Setup;
 use zh_returns::Count;
 
-/// What becomes of the votes of a list in one municipality: `before` is replaced by `after`, each at most 1,000,000,000
-/// and 0 where nothing is held or the list is withdrawn. Constituencies and lists are numbered from 1.
+/// A change of the votes of a list in one municipality, from `before` to `after`. Each is at most 1,000,000,000, and 0 if
+/// nothing is held or the list is withdrawn. Constituencies and lists are numbered from 1.
 #[derive(Clone, Copy)]
 pub struct Change {
     pub constituency: u32,
@@ -24,8 +24,8 @@ pub struct Change {
     pub after: u32,
 }
 
-/// The votes of each group in each constituency, for one set-up. Constituencies and groups are numbered from 1. All
-/// votes together are at most 10^14. The memory is taken in `new` and in `copy`; no other call takes any.
+/// The votes of each group in each constituency, for one set-up. Constituencies and groups are numbered from 1. All votes
+/// together are at most 10^14. Memory is allocated in `new`, `from_votes`, `copy` and `of`; no other call allocates any.
 #[derive(Drop)]
 pub struct Totals<'s> {
     setup: &'s Setup,
@@ -45,7 +45,7 @@ impl<'s> Model for Totals<'s> {
     ghost invariant = { AreTotalsInside };
 }
 
-/// So many sums without votes.
+/// A table of sums that are all 0.
 fn no_votes(alloc: Global, sums: usize) -> Result<Vec<u64>, AllocError>
     ensures { IfOk result (λ votes. votes.items ≡ replicate sums 0) }
 {
@@ -63,7 +63,7 @@ fn replace(sums: &mut [u64], place: usize, change: &Change)
 }
 
 impl<'s> Totals<'s> {
-    /// The totals of an election before its first return.
+    /// The totals of an election before its first return. Fails if memory is refused.
     pub fn new(alloc: Global, setup: &'s Setup) -> Result<Totals<'s>, AllocError>
         ensures { IfOk result (λ totals. totals ≡ totals_of (empty setup.now)) }
     {
@@ -76,8 +76,8 @@ impl<'s> Totals<'s> {
         })
     }
 
-    /// The totals that have these votes: constituency by constituency one sum for each group. `None` where they are not one
-    /// for each, or more than 10^14 in all.
+    /// The totals with these votes: one sum for each group, constituency by constituency. None if there is not one for each, or
+    /// if there are more than 10^14 votes in all. Fails if memory is refused.
     pub fn from_votes(
         alloc: Global,
         setup: &'s Setup,
@@ -137,7 +137,7 @@ impl<'s> Totals<'s> {
         self.constituencies[(constituency - 1) as usize]
     }
 
-    /// Replaces the votes before a change by those after it, in one sum and in its constituency.
+    /// Replaces the votes before a change by those after it, in the sum of its list and in that of its constituency.
     pub fn note(&mut self, change: &Change)
         requires { IsChange self.old change.now }
         ensures { self.new ≡ noted self.old change.now }
@@ -148,7 +148,7 @@ impl<'s> Totals<'s> {
         replace(&mut self.constituencies, constituency, change);
     }
 
-    /// The same totals once more, for a reader that outlives these.
+    /// A copy of these totals, for a reader that outlives them. Fails if memory is refused.
     pub fn copy(&self, alloc: Global) -> Result<Totals<'s>, AllocError>
         ensures { IfOk result (λ totals. totals ≡ self.now) }
     {
@@ -173,7 +173,7 @@ impl<'s> Totals<'s> {
 }
 
 impl<'s> Totals<'s> {
-    /// The totals of a count, by one pass over its entries.
+    /// The totals of a count, from one pass over its entries. Fails if memory is refused.
     pub fn of(alloc: Global, count: &Count<'s>) -> Result<Totals<'s>, AllocError>
         ensures { IfOk result (λ totals. totals ≡ totals_of count.now) }
     {
@@ -182,12 +182,12 @@ impl<'s> Totals<'s> {
         Ok(totals)
     }
 
-    /// Notes each entry of a count in totals without votes, which become its totals.
+    /// Notes each entry of a count in totals without votes, which become the totals of the count.
     pub fn note_count(&mut self, count: &Count<'_>)
         requires { self.old ≡ totals_of (empty count.now.canton) }
         ensures { self.new ≡ totals_of count.now }
     {
-        // A count is within its limits, however many commands it accepted.
+        // This call is made for what it ensures: the count is within its limits.
         count.accepted();
         for municipality in 1..=count.setup().municipalities() {
             self.note_municipality(count, municipality);

@@ -1,4 +1,4 @@
--- The divisor of a tie, by a weight that has the same claim as another.
+-- The divisor of a tie, found from a weight that has the same claim as another.
 use Rattle.std.proofs.Common.{◌≡◌, ℕ, suc, ◌+◌, ◌-◌, ◌*◌, ◌^◌, ◌<◌, ◌≤◌, Bool, false, IsTrue, List, [], ◌∷◌, All, Any, length, get_or, sum, sym, refl, inl, inr, ⊎_elim, subst, arith}
 use Rattle.std.proofs.lemmas.Bool.{cases_lt, cases_eq}
 use Rattle.std.specs.Prelude.{◌⊎◌}
@@ -12,7 +12,7 @@ use Rattle.zh_divisors.specs.Fit.{IsTied}
 use Rattle.zh_upper.specs.Halves.{AreFewHalves, IsFirstAbove}
 use Rattle.zh_upper.proofs.HalfLemmas.{IsTiedAtHalf, first_above, le_by_le}
 
--- a weight with a seat is positive
+-- the weight whose last seat is tied is positive
 seated_positive : (weights : List ℕ) (house : ℕ) (t : IsTied weights house) → Any (λ w. 0 < w) weights → 0 < get_or weights t.from 0
 seated_positive weights house t (k, x, kw, is, positive) =
     let there : 0 < get_or weights k 0 = rw (← get_or_default weights k x 0 kw, is) positive in
@@ -30,7 +30,7 @@ seated_positive weights house t (k, x, kw, is, positive) =
     (cases_lt 0 (get_or weights t.from 0)))
     (cases_eq t.from k)
 
--- the weight whose last seat it is
+-- the divisor of a tie, by the weight whose last seat is tied
 at_from : (weights : List ℕ) (house : ℕ) (t : IsTied weights house) → Any (λ w. 0 < w) weights →
     IsTiedAtHalf weights house (get_or weights t.from 0) (2 * get_or t.seats t.from 0 - 1)
 at_from weights house t positive =
@@ -61,7 +61,7 @@ at_from weights house t positive =
       next = t.as_much;
     }
 
--- and the weight whose next seat it is
+-- the divisor of a tie, by the weight whose next seat is tied
 at_to : (weights : List ℕ) (house : ℕ) (t : IsTied weights house) → Any (λ w. 0 < w) weights →
     IsTiedAtHalf weights house (get_or weights t.to 0) (2 * get_or t.seats t.to 0 + 1)
 unfolding at_from
@@ -98,7 +98,7 @@ at_to weights house t positive =
       next = refl;
     }
 
--- a weight with the same claim as another is on a half at the divisor of a tie
+-- a weight with the same claim as another is on a half under the divisor of a tie
 pub record IsOnHalf (weights : List ℕ) (house k : ℕ) : Type 0 where
   pub half : ℕ
   pub within : half ≤ house
@@ -127,7 +127,7 @@ on_half weights house k positive claim =
     })
     claim.side
 
--- the weight that is marked first is one of them
+-- the weight that is marked first is such a weight
 pub record IsMarked (weights : List ℕ) (house one : ℕ) : Type 0 where
   pub within : one < length weights
   pub half : IsOnHalf weights house one
@@ -147,7 +147,7 @@ marked weights others house claims marks one same told_is told t positive first 
     (cases_lt one (length weights)) in
     record { within = within; half = on_half weights house one positive ((here.each one within).0 is) }
 
--- and the divisor that puts it on the first half with too many seats is that of the tie
+-- the divisor that puts this weight on the first half with too many seats is the divisor of the tie
 pub at_divisor : (weights : List ℕ) (house one n m : ℕ) → IsMarked weights house one → n ≡ get_or weights one 0 →
     ((h : ℕ) → IsFirstAbove weights house (get_or weights one 0) h → m ≡ 2 * h + 1) → IsTiedAtHalf weights house n m
 at_divisor weights house one n m is weight odd =
@@ -167,7 +167,7 @@ few_halves weights house one n m is small most weight odd =
       few = omega (arith, m_is, half.within, most);
     }
 
--- some number is not 0, or all are
+-- some number is not 0, or all numbers are 0
 some_or_none : (xs : List ℕ) → Any (λ v. 0 < v) xs ⊎ All (λ v. v ≡ 0) xs
 some_or_none [] = inr (λ k d lt. absurd (omega (arith, lt)))
 some_or_none (x ∷ xs) =

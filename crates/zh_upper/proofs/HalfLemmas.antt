@@ -1,4 +1,4 @@
--- Seats at a divisor that puts some weights on a half, and all that fit beside them.
+-- Seats under a divisor that puts some weights on a half, and all other fits.
 use Rattle.std.proofs.Common.{◌≡◌, ◌≢◌, ◌∙◌, ℕ, zero, suc, ◌+◌, ◌-◌, ◌*◌, ◌<◌, ◌≤◌, List, [], ◌∷◌, length, get_or, map, set, sum, sum_by, ap, sym, refl, inl, inr, ⊎_elim, arith}
 use Rattle.std.specs.Prelude.{◌⊎◌}
 use Rattle.std.proofs.lemmas.Bool.{cases_lt, cases_eq}
@@ -34,12 +34,12 @@ lt_by_lt_le a p b q c r positive h k =
     let both : q * (a * r) < q * (c * p) = omega (arith, below, above) in
     lt_of_mul-lt-mul_left q both
 
--- at n / m no next seat is worth more and no last one less
+-- no next seat is worth more than n / m, and no last seat less
 pub record MayRoundTo (weights : List ℕ) (n m : ℕ) (seats : List ℕ) : Type 0 where
   pub upper : (k : ℕ) → k < length weights → get_or weights k 0 * m ≤ n * (2 * get_or seats k 0 + 1)
   pub lower : (k : ℕ) → k < length weights → 1 ≤ get_or seats k 0 → n * (2 * get_or seats k 0 - 1) ≤ get_or weights k 0 * m
 
--- and in these seats, which fit, a last one and a next one of two weights are worth as much
+-- a fit of which this is true, and in which the last seat of one weight and the next seat of another are worth n / m
 pub record IsTiedAtHalf (weights : List ℕ) (house n m : ℕ) : Type 0 where
   pub seats : List ℕ
   pub fit : IsFit weights house seats
@@ -54,7 +54,7 @@ pub record IsTiedAtHalf (weights : List ℕ) (house n m : ℕ) : Type 0 where
   pub last : n * (2 * get_or seats from 0 - 1) ≡ get_or weights from 0 * m
   pub next : get_or weights to 0 * m ≡ n * (2 * get_or seats to 0 + 1)
 
--- numbers that are at most those of a list, with at least its sum, are that list
+-- numbers that are at most those of a list and have at least its sum are that list
 same_from_sum : (xs ys : List ℕ) → length ys ≡ length xs → ((k : ℕ) → k < length xs → get_or ys k 0 ≤ get_or xs k 0) →
     sum xs ≤ sum ys → ys ≡ xs
 same_from_sum [] [] same below least = refl
@@ -69,7 +69,7 @@ same_from_sum (x ∷ xs) (y ∷ ys) same below least =
     let same_head : y ≡ x = omega (arith, ap sum same_tail) in
     cc
 
--- among the first n places the first list has less somewhere, or nowhere
+-- among the first n places the first list has a smaller number somewhere, or nowhere
 less_somewhere : (xs ys : List ℕ) (n : ℕ) →
     ((l : ℕ) × (l < n) × (get_or xs l 0 < get_or ys l 0)) ⊎ ((l : ℕ) → l < n → get_or ys l 0 ≤ get_or xs l 0)
 less_somewhere xs ys zero = inr (λ l lt. absurd (omega (arith, lt)))
@@ -83,7 +83,7 @@ less_somewhere xs ys (suc n) =
           (cases_lt (get_or xs n 0) (get_or ys n 0))
     ]
 
--- of two lists with one sum, where the second has more at k, the first has more somewhere
+-- if of two fits the second has more seats at k, the first has more somewhere
 more_elsewhere : (weights : List ℕ) (house : ℕ) (xs ys : List ℕ) (k : ℕ) → IsFit weights house xs → IsFit weights house ys →
     k < length weights → get_or xs k 0 < get_or ys k 0 → (l : ℕ) × (l < length weights) × (get_or ys l 0 < get_or xs l 0)
 more_elsewhere weights house xs ys k one other kw less =
@@ -96,7 +96,7 @@ more_elsewhere weights house xs ys k one other kw less =
           absurd (omega (arith, less, ap (λ (s : List ℕ). get_or s k 0) same))
     ]
 
--- all seats that fit are so at n / m
+-- in every fit no next seat is worth more than n / m, and no last seat less
 next_within : (weights : List ℕ) (house n m : ℕ) (t : IsTiedAtHalf weights house n m) (seats : List ℕ) → IsFit weights house seats →
     (k : ℕ) → k < length weights → get_or weights k 0 * m ≤ n * (2 * get_or seats k 0 + 1)
 next_within weights house n m t seats fit k kw =
@@ -139,7 +139,7 @@ last_within weights house n m t seats fit k kw seated =
     (λ within. within)
     (cases_lt (get_or weights k 0 * m) (n * (2 * get_or seats k 0 - 1)))
 
--- what rounds at one divisor fits
+-- seats that round under one divisor, and add up to the house, fit
 fit_from_rounding : (weights : List ℕ) (house n m : ℕ) (seats : List ℕ) → MayRoundTo weights n m seats → 0 < m →
     length seats ≡ length weights → sum seats ≡ house → IsFit weights house seats
 fit_from_rounding weights house n m seats rounds odd one_each add_up = record {
@@ -149,7 +149,7 @@ fit_from_rounding weights house n m seats rounds odd one_each add_up = record {
       le_by_le (get_or weights j 0) (2 * get_or seats j 0 + 1) n m (get_or weights i 0) (2 * get_or seats i 0 - 1) odd (rounds.upper j jw) (rounds.lower i iw seated);
 }
 
--- one seat goes from i to j
+-- one seat moves from i to j
 abbrev moved : List ℕ → ℕ → ℕ → List ℕ
 moved seats i j = set (set seats i (get_or seats i 0 - 1)) j (get_or seats j 0 + 1)
 
@@ -178,7 +178,7 @@ is_moved seats i j iw jw differ seated =
       elsewhere = λ k from to. get_or-set_other taken j k more 0 to ∙ get_or-set_other seats i k less 0 from;
     }
 
--- seats between weights to which they are worth as much may go from one to the other
+-- a seat that is worth as much to j as to i can move from i to j, and the seats still fit
 moved_fit : (weights : List ℕ) (house n m : ℕ) (t : IsTiedAtHalf weights house n m) (i j : ℕ) → i < length weights → j < length weights → i ≢ j →
     1 ≤ get_or t.seats i 0 → n * (2 * get_or t.seats i 0 - 1) ≡ get_or weights i 0 * m → get_or weights j 0 * m ≡ n * (2 * get_or t.seats j 0 + 1) →
     IsFit weights house (moved t.seats i j)
@@ -211,7 +211,7 @@ moved_fit weights house n m t i j iw jw differ seated last next =
     (cases_eq k i) in
     fit_from_rounding weights house n m others (record { upper = upper; lower = lower }) t.odd (is.one_each ∙ t.fit.one_each) (is.add_up ∙ t.fit.add_up)
 
--- the seats rounded up and down, against other seats
+-- the seats rounded half up and half down, compared with other seats
 up_at_least : (n m w s : ℕ) → 0 < n → (1 ≤ s → n * (2 * s - 1) ≤ w * m) → s ≤ rounded_up n m w
 up_at_least n m w s some below =
     ⊎_elim
@@ -227,7 +227,7 @@ up_at_most n m w s some above =
     let below : rounded_up n m w < s + 1 = div_below (w * m + n) (2 * n) (s + 1) (omega (arith, some)) (omega (arith, above)) in
     omega (arith, below)
 
--- s + 1 where the weight is on the half above s
+-- a weight on the half above s rounds up to at least s + 1
 up_on_half : (n m w s : ℕ) → 0 < n → w * m ≡ n * (2 * s + 1) → s + 1 ≤ rounded_up n m w
 up_on_half n m w s some half = le-div (s + 1) (w * m + n) (2 * n) (omega (arith, some)) (omega (arith, half))
 
@@ -247,11 +247,11 @@ down_at_least n m w s some below = le-div (s + 1) (w * m + n - 1) (2 * n) (omega
 down_near : (n m w s : ℕ) → 0 < n → n * (2 * s + 1) ≤ w * m → s ≤ rounded_down n m w
 down_near n m w s some below = le-div s (w * m + n - 1) (2 * n) (omega (arith, some)) (omega (arith, below, some))
 
--- a weight with which the house has a seat too many, or one too few
+-- weight k can have the number of seats that it has in the fit of the tie
 keeps : (weights : List ℕ) (house n m : ℕ) (t : IsTiedAtHalf weights house n m) (k number : ℕ) → get_or t.seats k 0 ≡ number → MayHave weights house k number
 keeps weights house n m t k number is = record { seats = t.seats; fit = t.fit; has = is }
 
--- no weight is on the halves above and below its seats
+-- no weight is on both the half above and the half below its seats
 apart_from : (n s : ℕ) → 0 < n → n * (2 * s + 1) ≡ n * (2 * s - 1) → 1 ≤ s → ⊥
 apart_from n s some same seated =
     let less : n * (2 * s - 1) < n * (2 * s + 1) = mul-lt-mul_of_pos_left (omega arith) some in
@@ -311,7 +311,7 @@ greatest weights house n m t k kw =
     (λ reaches. keeps weights house n m t k (rounded_up n m w) (omega (arith, reaches, least)))
     (cases_lt s (rounded_up n m w))
 
--- so the seats rounded down and up are the range
+-- the range is from the seats rounded half down to the seats rounded half up
 pub half_range : (weights : List ℕ) (house n m : ℕ) (t : IsTiedAtHalf weights house n m) (k : ℕ) → k < length weights →
     HasSeatRange weights house k (rounded_down n m (get_or weights k 0)) (rounded_up n m (get_or weights k 0))
 half_range weights house n m t k kw = record {
@@ -321,7 +321,7 @@ half_range weights house n m t k kw = record {
   greatest = greatest weights house n m t k kw;
 }
 
--- for each weight in order
+-- the ranges of all weights, in order
 pub are_ranges : (weights : List ℕ) (house n m : ℕ) (least most : List ℕ) → IsTiedAtHalf weights house n m →
     least ≡ map (rounded_down n m) weights → most ≡ map (rounded_up n m) weights → AreSeatRanges weights house least most
 are_ranges weights house n m least most t least_is most_is = record {
@@ -335,7 +335,7 @@ are_ranges weights house n m least most t least_is most_is = record {
       rw (down, up) (half_range weights house n m t k kw);
 }
 
--- each is at most the house and one more
+-- each number that is rounded half up is at most one more than the house
 pub up_small : (weights : List ℕ) (house n m : ℕ) (t : IsTiedAtHalf weights house n m) (k : ℕ) → k < length weights →
     rounded_up n m (get_or weights k 0) ≤ house + 1
 up_small weights house n m t k kw =
@@ -350,7 +350,7 @@ down_small weights house n m t k kw =
     let within : get_or t.seats k 0 ≤ sum t.seats = get_or-le-sum_by (λ x. x) t.seats k 0 (omega (arith, kw, t.fit.one_each)) in
     omega (arith, most, within, t.fit.add_up)
 
--- sums of numbers and of what is made of others
+-- if each term is at most the seats at its place, the sum is at most the sum of the seats
 total-le : (f : ℕ → ℕ) (weights seats : List ℕ) → length seats ≡ length weights →
     ((k : ℕ) → k < length weights → f (get_or weights k 0) ≤ get_or seats k 0) → sum_by f weights ≤ sum seats
 total-le f [] [] same below = omega arith
@@ -386,7 +386,7 @@ total-gt f (w ∷ weights) (s ∷ seats) (suc e) same above within more =
     let rest : sum seats < sum_by f weights = total-gt f weights seats e (omega (arith, same)) tail (omega (arith, within)) more in
     omega (arith, head, rest, sum_by-cons f w weights, sum_by-cons (λ x. x) s seats)
 
--- with fewer halves no weight rounds up to more than its seats
+-- under a divisor with fewer halves no weight rounds up to more than its seats
 up_before : (n i h w s : ℕ) → 0 < n → i < h → w * (2 * h + 1) ≤ n * (2 * s + 1) → rounded_up n (2 * i + 1) w ≤ s
 up_before n i h w s some less above =
     up_at_most n (2 * i + 1) w s some
@@ -401,7 +401,7 @@ up_before n i h w s some less above =
     omega (arith, zero_is, wide, some))
     (cases_lt 0 w))
 
--- and the divisor of the tie is the first with which they are more than the house
+-- the divisor of the tie is the first under which the seats rounded half up are more than the house
 pub first_above : (weights : List ℕ) (house n h : ℕ) (t : IsTiedAtHalf weights house n (2 * h + 1)) → h ≤ house → IsFirstAbove weights house n h
 first_above weights house n h t within =
     let f : ℕ → ℕ = rounded_up n (2 * h + 1) in

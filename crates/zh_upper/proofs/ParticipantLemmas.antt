@@ -5,7 +5,7 @@ use Rattle.std.proofs.lemmas.List.Sums.{sum_by-cons}
 use Rattle.zh_divisors.specs.Shares.{Apportionment}
 use Rattle.zh_upper.specs.UpperSeats.{of_participants, shares_of_participants}
 
--- with one more group at the end
+-- the numbers of the groups that take part, with one more group at the end
 pub of_participants-append : (numbers : List ℕ) (taking : List Bool) (n : ℕ) (takes_part : Bool) →
     length numbers ≡ length taking →
     of_participants (numbers ++ n ∷ []) (taking ++ takes_part ∷ []) ≡ of_participants numbers taking ++ cond takes_part (n ∷ []) []
@@ -40,7 +40,7 @@ All-of_participants P (n ∷ numbers) (true ∷ taking) each =
     All-cons P n (of_participants numbers taking) (All-head P n numbers each) (All-of_participants P numbers taking (All-tail P n numbers each))
 All-of_participants P (n ∷ numbers) (false ∷ taking) each = All-of_participants P numbers taking (All-tail P n numbers each)
 
--- where a number is left, some group takes part
+-- if the result has a number, some group takes part
 pub Contains-from_participant : (numbers : List ℕ) (taking : List Bool) → 0 < length (of_participants numbers taking) → Contains taking true
 Contains-from_participant [] taking some = absurd (omega arith)
 Contains-from_participant (n ∷ numbers) [] some = absurd (omega arith)
@@ -48,7 +48,7 @@ Contains-from_participant (n ∷ numbers) (true ∷ taking) some = (0, omega ari
 Contains-from_participant (n ∷ numbers) (false ∷ taking) some =
     let there = Contains-from_participant numbers taking some in (suc there.0, omega (arith, there.1), there.2)
 
--- what is true of the shares is true of the same seats among those of all groups
+-- what is true of the shares of the groups that take part is true of these shares among those of all groups
 pub of_shares : (P : Apportionment → Type 0) (shares all : Apportionment) (taking : List Bool) → of_participants all.seats taking ≡ shares.seats →
     all.num ≡ shares.num → all.den ≡ shares.den → P shares → P (shares_of_participants all taking)
 of_shares P shares all taking seats num den true_of = rw (seats, num, den) true_of

@@ -1,4 +1,4 @@
--- Which refusal an answer is.
+-- Which refusal is returned.
 use Rattle.std.proofs.Common.{◌≡◌, ℕ, ◌<◌, Bool, true, Option, Some, List, [], ◌∷◌, get_or, Any, Contains, Ok, Err, inl, inr, refl, ap, sym, ◌∙◌, subst, arith}
 use Rattle.std.specs.List.{find}
 use Rattle.std.specs.Str.{bytes_eq}
@@ -14,16 +14,16 @@ use Rattle.zh_upper.specs.declared.fault.UpperRefusal.{UpperRefusal}
 use Rattle.zh_upper.specs.declared.fault.UpperRefusal.TheVariants.{NoGroup, NoVoters, Tied}
 use Rattle.zh_upper.proofs.ParticipantLemmas.{Contains-from_participant}
 
--- all of them, in their order
+-- all refusals, in their order
 abbrev pub upper_refusals : List UpperRefusal
 upper_refusals = NoGroup ∷ NoVoters ∷ Tied ∷ []
 
--- each has a place of its own
+-- each refusal has its own place
 at_place : (refusal : UpperRefusal) → get_or upper_refusals (upper_place refusal) NoGroup ≡ refusal
 at_place NoGroup = refl
 at_place _ = refl
 
--- and a name
+-- the refusal with this name
 abbrev pub upper_named : List ℕ → Option UpperRefusal
 upper_named bytes = find (λ refusal. bytes_eq (upper_refusal_name refusal) bytes) upper_refusals
 
@@ -31,7 +31,7 @@ pub upper_read_back : (refusal : UpperRefusal) → upper_named (upper_refusal_na
 upper_read_back NoGroup = refl
 upper_read_back _ = refl
 
--- the first case that holds is one
+-- only one case is the first that holds
 pub one_upper_refusal : (voters : List ℕ) (taking : List Bool) (house : ℕ) (one other : UpperRefusal) → HaveNoUpperSeats voters taking house one →
     HaveNoUpperSeats voters taking house other → one ≡ other
 one_upper_refusal voters taking house one other a b = elim (cases_order (upper_place one) (upper_place other)) [
@@ -60,25 +60,25 @@ pub none_refused : {Seats : Type 0} (voters : List ℕ) (taking : List Bool) (ho
 none_refused voters taking house seats none =
     record { only = λ refusal is. absurd (cc); always = λ refusal because. absurd (none refusal because.holds) }
 
--- a group takes part
+-- if a group takes part, no case before `NoVoters` holds
 pub some_group : (voters : List ℕ) (taking : List Bool) (house : ℕ) → Contains taking true → NoUpperCaseBefore voters taking house NoVoters
 some_group voters taking house there NoGroup before none = none there
 some_group voters taking house there _ before holds = absurd (omega arith)
 
--- one that does has voters
+-- if a group that takes part has voters, no case before `Tied` holds
 pub some_voters : (voters : List ℕ) (taking : List Bool) (house : ℕ) → Any (λ v. 0 < v) (of_participants voters taking) →
     NoUpperCaseBefore voters taking house Tied
 some_voters voters taking house some NoVoters before zeros = omega (arith, zeros some.0 some.1 some.2, some.3, some.4)
 some_voters voters taking house some refusal before holds =
     some_group voters taking house (Contains-from_participant voters taking (omega (arith, some.2))) refusal (omega arith) holds
 
--- and no seat is worth as much to two
+-- if in addition the apportionment is not tied, no case holds
 pub untied : (voters : List ℕ) (taking : List Bool) (house : ℕ) → Any (λ v. 0 < v) (of_participants voters taking) →
     ¬ IsTied (of_participants voters taking) house → (refusal : UpperRefusal) → ¬ IsUpperCase voters taking house refusal
 untied voters taking house some not Tied holds = not holds
 untied voters taking house some not refusal holds = some_voters voters taking house some refusal (omega arith) holds
 
--- the fault of an apportionment to the groups that take part
+-- a fault of the apportionment to the groups that take part
 pub shares_refused : {Seats : Type 0} (voters : List ℕ) (taking : List Bool) (house : ℕ) → Any (λ v. 0 < v) (of_participants voters taking) → (fault : ShareFault) →
     Apportions (of_participants voters taking) house (Err fault) → IsRefusedExactly {Seats = Seats} (HaveNoUpperSeats voters taking house) (Err (of_share_fault fault))
 shares_refused voters taking house some share_faults.Memory is = memory_refused (HaveNoUpperSeats voters taking house)

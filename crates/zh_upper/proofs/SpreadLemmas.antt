@@ -1,4 +1,4 @@
--- Seats of the groups that take part, put back to the numbers of all groups, one more group at a time.
+-- The seats of the groups that take part, spread over all groups one group at a time.
 use Rattle.std.proofs.Common.{◌≡◌, ℕ, suc, ◌+◌, ◌<◌, Bool, true, false, Some, List, [], ◌∷◌, ◌++◌, length, cond, count_by, get_or, take, drop, slice_get, refl, ap, sym, ◌∙◌, length-append, append-nil, add-one, arith, below_more}
 use Rattle.std.proofs.Math.Seq.{drop-cons, get_or-append_seam}
 use Rattle.std.proofs.lemmas.List.{drop_all, take_all, take_more, length-take-le, get_or_append_left}
@@ -7,7 +7,7 @@ use Rattle.std.proofs.lemmas.Option.{get_or_from_slice_get, slice_get_within}
 use Rattle.zh_upper.specs.UpperSeats.{of_participants}
 use Rattle.zh_upper.proofs.ParticipantLemmas.{of_participants-append}
 
--- the first i groups have their seats, and these are the first `next` of those that the groups that take part have
+-- the first i groups have their seats, and the first `next` of the seats of the groups that take part are used
 pub record IsSpread (seats : List ℕ) (taking : List Bool) (all : List ℕ) (next i : ℕ) : Type 0 where
   pub one_each : length all ≡ i
   pub left : next + count_by (λ b. b) (drop i taking) ≡ length seats
@@ -52,7 +52,7 @@ append-others taking all i n long before here =
     (λ g lt none. get_or_append_left all (n ∷ []) 0 g (omega arith) ∙ before g lt none)
     (λ none. ap (λ k. get_or (all ++ n ∷ []) k 0) (sym long) ∙ (get_or-append_seam all n [] 0 ∙ here none))
 
--- a group that takes part has the next seats
+-- a group that takes part gets the next seats
 pub IsSpread-seated : (seats : List ℕ) (taking : List Bool) (all : List ℕ) (next i n : ℕ) → IsSpread seats taking all next i →
     i < length taking → get_or taking i true ≡ true → n ≡ get_or seats next 0 →
     IsSpread seats taking (all ++ n ∷ []) (next + 1) (i + 1)
@@ -67,7 +67,7 @@ IsSpread-seated seats taking all next i n is lt takes_part n_is = record {
       (λ none. let read : get_or taking i true ≡ false = get_or_from_slice_get taking i false true none in cc);
 }
 
--- a group that takes no part has none
+-- a group that does not take part gets 0
 pub IsSpread-unseated : (seats : List ℕ) (taking : List Bool) (all : List ℕ) (next i : ℕ) → IsSpread seats taking all next i →
     i < length taking → get_or taking i false ≡ false →
     IsSpread seats taking (all ++ 0 ∷ []) next (i + 1)

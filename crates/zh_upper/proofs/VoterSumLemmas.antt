@@ -1,4 +1,4 @@
--- How large a voter sum is.
+-- How large a voter sum can be.
 use Rattle.std.proofs.Common.{◌≡◌, ℕ, zero, suc, ◌+◌, ◌-◌, ◌^◌, ◌<◌, ◌≤◌, ◌∙◌, ◌++◌, ◌∷◌, All, List, [], length, length-append, get_or, refl, ap, sym, inl, inr, arith}
 use Rattle.std.proofs.Math.Seq.{get_or-append_seam}
 use Rattle.std.proofs.lemmas.Bool.{cases_eq}
@@ -9,7 +9,7 @@ use Rattle.zh_totals.specs.Totals.{VoteTotals, AreTotals, votes_in, constituency
 use Rattle.zh_upper.specs.VoterNumbers.{AreVoterSums, voter_number, voter_sum}
 use Rattle.zh_upper.proofs.CallerLemmas.{voter_number-le}
 
--- each term at most the other's
+-- sums compare as their terms do
 sum_to-le : (n : ℕ) (f g : ℕ → ℕ) → ((i : ℕ) → i < n → f i ≤ g i) → sum_to n f ≤ sum_to n g
 sum_to-le zero f g each = omega arith
 sum_to-le (suc n) f g each = omega (arith, sum_to-le n f g (λ i lt. each i (omega arith)), each n (omega arith))
@@ -40,7 +40,7 @@ votes_in-le totals i g from_one there =
     let place : g - 1 + 1 ≡ g = omega arith in
     rw place at (term-le-sum_to (length totals.canton.groups) (g - 1) (λ j. votes_in totals (i + 1) (j + 1)) (omega arith))
 
--- the voter numbers of a group in the first n constituencies
+-- the voter numbers of a group in the first n constituencies add up to at most 10^14
 pub voter_sum-small : (totals : VoteTotals) (seats : List ℕ) (g n : ℕ) → AreTotals totals → length seats ≡ length totals.canton.constituencies →
     All (λ r. 1 ≤ r) seats → 1 ≤ g → g ≤ length totals.canton.groups → n ≤ length totals.canton.constituencies →
     sum_to n (number_at totals seats g) ≤ 10 ^ 14
@@ -63,7 +63,7 @@ pub record AreVoterSumsTo (totals : VoteTotals) (seats sums : List ℕ) (n : ℕ
 pub no_sums : (totals : VoteTotals) (seats sums : List ℕ) → sums ≡ [] → AreVoterSumsTo totals seats sums 0
 no_sums totals seats sums none = rw none (record { one_each = refl; each = λ g low high. absurd (omega (arith, low, high)); small = All-nil (λ v. v ≤ 10 ^ 14) })
 
--- and of one more
+-- the voter sums with one more group
 pub one_sum_more : (totals : VoteTotals) (seats before after : List ℕ) (n sum : ℕ) → AreVoterSumsTo totals seats before n → after ≡ before ++ sum ∷ [] →
     sum ≡ voter_sum totals seats (n + 1) → sum ≤ 10 ^ 14 → AreVoterSumsTo totals seats after (n + 1)
 one_sum_more totals seats before after n sum are put is small =
@@ -78,6 +78,6 @@ one_sum_more totals seats before after n sum are put is small =
       small = All-push (λ v. v ≤ 10 ^ 14) before sum are.small small;
     })
 
--- the first n groups are all
+-- the voter sums of the first n groups, if these are all
 pub all_sums : (totals : VoteTotals) (seats sums : List ℕ) (n : ℕ) → AreVoterSumsTo totals seats sums n → n ≡ length totals.canton.groups → AreVoterSums totals seats sums
 all_sums totals seats sums n are last = record { one_each = are.one_each ∙ last; each = λ g low high. are.each g low (omega (arith, high, last)) }

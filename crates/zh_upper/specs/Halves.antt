@@ -1,7 +1,7 @@
 -- Weights over a divisor that puts one of them, n, on a half: 2 * n over an odd number m.
 use Rattle.std.specs.Prelude.{ℕ, ◌+◌, ◌-◌, ◌*◌, ◌/◌, ◌^◌, ◌<◌, ◌≤◌, List, sum_by}
 
--- rounded to the nearest whole number, a half up or down
+-- a weight over this divisor, rounded to the nearest whole number, a half up or down
 abbrev pub rounded_up : ℕ → ℕ → ℕ → ℕ
 rounded_up n m weight = (weight * m + n) / (2 * n)
 
@@ -11,13 +11,14 @@ rounded_down n m weight = (weight * m + n - 1) / (2 * n)
 abbrev pub total_up : ℕ → ℕ → List ℕ → ℕ
 total_up n m weights = sum_by (rounded_up n m) weights
 
--- few enough halves for the products to fit 64 bits
+-- few enough halves for the products to fit into 64 bits
 pub record AreFewHalves (n m : ℕ) : Type 0 where
   pub some : 1 ≤ n
   pub small : n ≤ 10 ^ 14
   pub few : m ≤ 801
 
--- h is the first number of seats for n with which, n being on the half above them, the seats rounded up are more than the house
+-- h is the first number of seats for n with this property: under the divisor that puts n on the half above h, the seats rounded
+-- half up add up to more than the house
 pub record IsFirstAbove (weights : List ℕ) (house n h : ℕ) : Type 0 where
   pub within : h ≤ house
   pub above : house < total_up n (2 * h + 1) weights

@@ -9,41 +9,41 @@ use Rattle.zh_upper.specs.declared.fault.UpperFault.TheVariants.{Memory, Refused
 use Rattle.zh_upper.specs.declared.fault.UpperRefusal.{UpperRefusal}
 use Rattle.zh_upper.specs.declared.fault.UpperRefusal.TheVariants.{NoGroup, NoVoters, Tied}
 
--- the case of each, by the voter sums, who takes part, and the house: no group takes part; every group that does has the
--- voter sum 0; the apportionment to the groups that take part is tied
+-- when each case holds, by the voter sums, the groups that take part, and the house: no group takes part; every group that
+-- does has the voter sum 0; the apportionment to the groups that take part is tied
 abbrev pub IsUpperCase : List ℕ → List Bool → ℕ → UpperRefusal → Type 0
 IsUpperCase voters taking house NoGroup = ¬ Contains taking true
 IsUpperCase voters taking house NoVoters = All (λ v. v ≡ 0) (of_participants voters taking)
 IsUpperCase voters taking house Tied = IsTied (of_participants voters taking) house
 
--- the place of each in their order, from 0
+-- the place of each case in the order, from 0
 abbrev pub upper_place : UpperRefusal → ℕ
 upper_place NoGroup = 0
 upper_place NoVoters = 1
 upper_place Tied = 2
 
--- the name of each
+-- the name of each refusal
 abbrev pub upper_refusal_name : UpperRefusal → List ℕ
 upper_refusal_name NoGroup = codes "nogroup"
 upper_refusal_name NoVoters = codes "novoters"
 upper_refusal_name Tied = codes "tied upper"
 
--- none of the cases before that of this refusal holds
+-- no case before that of this refusal holds
 abbrev pub NoUpperCaseBefore : List ℕ → List Bool → ℕ → UpperRefusal → Type 0
 NoUpperCaseBefore voters taking house refusal =
     (other : UpperRefusal) → upper_place other < upper_place refusal → ¬ IsUpperCase voters taking house other
 
--- no seats of the groups follow, and the case of this refusal is the first that holds
+-- the groups get no seats, and the case of this refusal is the first that holds
 pub record HaveNoUpperSeats (voters : List ℕ) (taking : List Bool) (house : ℕ) (refusal : UpperRefusal) : Type 0 where
   pub holds : IsUpperCase voters taking house refusal
   pub first : NoUpperCaseBefore voters taking house refusal
 
--- each refusal comes exactly where this is so of it; out of memory can come in place of every answer
+-- each refusal is returned exactly if `reason` holds of it; `Memory` can be returned in place of any answer
 pub record IsRefusedExactly {Seats : Type 0} (reason : UpperRefusal → Type 0) (result : Result Seats UpperFault) : Type 0 where
   pub only : (refusal : UpperRefusal) → IsErrOf result (Refused refusal) → reason refusal
   pub always : (refusal : UpperRefusal) → reason refusal → IsErrOf result (Refused refusal) ⊎ IsErrOf result Memory
 
--- the fault of an apportionment to the groups that take part
+-- what a fault of the apportionment to the groups that take part becomes
 abbrev pub of_share_fault : ShareFault → UpperFault
 of_share_fault share_faults.Memory = Memory
 of_share_fault share_faults.Tied = Refused Tied

@@ -17,7 +17,7 @@ fn has_voters(sums: &[u64]) -> bool
     sums.iter().any(|sum| *sum > 0)
 }
 
-/// The seats of the house in proportion to these sums, one of them not 0, with the divisor.
+/// The seats of the house in proportion to these sums, with the divisor. At least one of the sums must not be 0.
 fn shares_of(alloc: Global, sums: &[u64], house: u32) -> Result<Shares, ShareFault>
     requires some_voters { Any (λ v. 0 < v) sums.now }
     requires at_most_32 { length sums.now ≤ 32 }
@@ -79,7 +79,7 @@ pub(crate) fn of_participants(
         .collect(alloc)
 }
 
-/// The seats of all groups, from those of the groups that take part: 0 for each of the others.
+/// The seats of all groups, given those of the groups that take part. Each other group gets 0.
 pub(crate) fn spread(alloc: Global, seats: &[u32], taking: &[bool]) -> Result<Vec<u32>, AllocError>
     requires { length seats.now ≡ count_by (λ takes_part. takes_part) taking.now }
     ensures one_each { IfOk result (λ all. length all.items ≡ length taking.now) }

@@ -1,4 +1,4 @@
-//! Why no seats are found.
+//! Why the groups get no seats.
 ghost use Rattle.std.specs.Prelude.{◌≡◌, ◌≤◌, length};
 ghost use Rattle.zh_upper.specs.Refusals.{upper_refusal_name};
 ghost use Rattle.zh_upper.specs.declared.fault.UpperFault.TheVariants.{Memory};
@@ -7,13 +7,13 @@ use std::alloc::AllocError;
 use thiserror::Error;
 use zh_divisors::ShareFault;
 
-/// Why the groups get no seats, memory among the reasons.
+/// Why the groups get no seats, including refused memory.
 #[derive(Clone, Copy, Debug, PartialEq, Eq, Error)]
 pub enum UpperFault {
     /// Memory was refused.
     #[error("out of memory")]
     Memory,
-    /// There are no seats, for this reason.
+    /// There are no seats for this reason.
     #[error("the groups get no seats")]
     Refused(UpperRefusal),
 }
@@ -39,19 +39,19 @@ impl From<ShareFault> for UpperFault {
     }
 }
 
-/// Why the groups get no seats, in the order in which the cases are looked for.
+/// Why the groups get no seats, in the order in which the cases are checked.
 #[derive(Clone, Copy, Debug, PartialEq, Eq)]
 pub enum UpperRefusal {
     /// No group takes part.
     NoGroup,
     /// The voter sums of all groups that take part are 0.
     NoVoters,
-    /// A seat is worth as much to two groups that take part.
+    /// The seats are tied: a seat is worth as much to two groups that take part.
     Tied,
 }
 
 impl UpperRefusal {
-    /// Its name, as replies spell it.
+    /// Its name as replies spell it: at most 12 bytes.
     pub fn name(self) -> &'static str
         ensures name { upper_refusal_name self ≡ result.now }
         ensures short { length result.now ≤ 12 }

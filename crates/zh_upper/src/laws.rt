@@ -2,8 +2,8 @@
 ghost use Rattle.std.specs.Prelude.{◌≡◌, ℕ, ◌≤◌};
 ghost use Rattle.zh_upper.specs.VoterNumbers.{RoundsHalfUp, voter_number};
 
-/// The voter number is the one whole number that rounds votes over seats to the nearest, a half up, and is
-/// no more than the votes.
+/// The voter number is the only whole number to which votes over seats round, a half up. It is at most the
+/// votes.
 pub fn one_voter_number()
     ensures nearest { (votes seats : ℕ) → 1 ≤ seats → RoundsHalfUp votes seats (voter_number votes seats) }
     ensures only { (votes seats number : ℕ) → RoundsHalfUp votes seats number → number ≡ voter_number votes seats }

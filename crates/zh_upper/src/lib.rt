@@ -1,8 +1,8 @@
 //! Voter numbers and upper seats: the seats of each group in the whole canton (GPR section 103).
 //!
-//! The votes of a list are divided by the seats of its constituency, which gives its voter number: a voter
-//! has as many votes as the constituency has seats. The voter numbers of a group are added up over the
-//! canton, and the house is apportioned to the groups that take part in proportion to these sums.
+//! The votes of a list are divided by the seats of its constituency and rounded, which gives its voter number: a
+//! voter has as many votes as the constituency has seats. The voter numbers of a group are added up over the canton.
+//! The house is then apportioned, in proportion to these sums, to the groups that take part.
 #![tactic(auto)]
 
 pub use apportionment::upper;

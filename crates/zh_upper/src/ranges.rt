@@ -1,4 +1,4 @@
-//! How many seats the groups may get where they are tied.
+//! How many seats each group can get if the seats are tied.
 ghost use Rattle.std.specs.Prelude.{◌≡◌, ◌+◌, ◌*◌, ◌^◌, ◌<◌, ◌≤◌, ℕ, All, Any, IfOk, IsTrue, false, length, map, slice_index_or};
 ghost use Rattle.zh_divisors.specs.Fit.{IsTied};
 ghost use Rattle.zh_upper.specs.Halves.{AreFewHalves, IsFirstAbove, rounded_down, rounded_up, total_up};
@@ -10,7 +10,7 @@ use crate::apportionment::{of_participants, spread};
 use std::alloc::{AllocError, Global};
 use zh_divisors::{Weights, same_claims};
 
-/// The fewest and the most seats over all seats that fit, in order.
+/// The fewest and the most seats of each weight or group, in order, over all fits.
 #[derive(Drop)]
 pub struct SeatRanges {
     pub least: Vec<u32>,
@@ -24,7 +24,7 @@ struct HalfDivisor {
     odd: u32,
 }
 
-/// A weight over this divisor, rounded to the nearest whole number and a half up.
+/// A weight over this divisor, rounded to the nearest whole number, a half up.
 fn rounded_up(divisor: HalfDivisor, weight: u64) -> u64
     requires few { AreFewHalves divisor.weight divisor.odd }
     requires small { weight ≤ 10 ^ 14 }
@@ -34,7 +34,7 @@ fn rounded_up(divisor: HalfDivisor, weight: u64) -> u64
     (weight * u64::from(divisor.odd) + divisor.weight) / (2 * divisor.weight)
 }
 
-/// The same, and a half down.
+/// A weight over this divisor, rounded to the nearest whole number, a half down.
 fn rounded_down(divisor: HalfDivisor, weight: u64) -> u64
     requires few { AreFewHalves divisor.weight divisor.odd }
     requires small { weight ≤ 10 ^ 14 }
@@ -43,7 +43,7 @@ fn rounded_down(divisor: HalfDivisor, weight: u64) -> u64
     (weight * u64::from(divisor.odd) + divisor.weight - 1) / (2 * divisor.weight)
 }
 
-/// The weights over this divisor, each rounded and a half up, added up.
+/// The sum of the weights over this divisor, each rounded half up.
 fn total_up(divisor: HalfDivisor, weights: &[u64]) -> u64
     requires few { AreFewHalves divisor.weight divisor.odd }
     requires at_most_32 { length weights.now ≤ 32 }
@@ -57,7 +57,7 @@ fn total_up(divisor: HalfDivisor, weights: &[u64]) -> u64
     total
 }
 
-/// The divisor with which this weight is on the first half where the seats, rounded up, are more than the house.
+/// The divisor that puts this weight on the first half at which the seats, rounded half up, add up to more than the house.
 fn first_above(weights: &[u64], weight: u64, house: u32) -> HalfDivisor
     requires at_most_32 { length weights.now ≤ 32 }
     requires each_small { All (λ w. w ≤ 10 ^ 14) weights.now }
@@ -82,7 +82,7 @@ fn first_above(weights: &[u64], weight: u64, house: u32) -> HalfDivisor
     }
 }
 
-/// The fewest seats by this divisor.
+/// The fewest seats of each weight under this divisor: halves are rounded down.
 fn each_down(alloc: Global, divisor: HalfDivisor, weights: &[u64]) -> Result<Vec<u32>, AllocError>
     requires few { AreFewHalves divisor.weight divisor.odd }
     requires each_small { All (λ w. w ≤ 10 ^ 14) weights.now }
@@ -96,7 +96,7 @@ fn each_down(alloc: Global, divisor: HalfDivisor, weights: &[u64]) -> Result<Vec
     Ok(seats)
 }
 
-/// The most seats by this divisor.
+/// The most seats of each weight under this divisor: halves are rounded up.
 fn each_up(alloc: Global, divisor: HalfDivisor, weights: &[u64]) -> Result<Vec<u32>, AllocError>
     requires few { AreFewHalves divisor.weight divisor.odd }
     requires each_small { All (λ w. w ≤ 10 ^ 14) weights.now }
@@ -110,7 +110,7 @@ fn each_up(alloc: Global, divisor: HalfDivisor, weights: &[u64]) -> Result<Vec<u
     Ok(seats)
 }
 
-/// The place of the first that is marked, and 0 where none is.
+/// The place of the first mark that is set, or 0 if none is.
 fn first_marked(marks: &[bool]) -> usize
     ensures { (k : ℕ) → IsTrue (slice_index_or marks.now k false) → IsTrue (slice_index_or marks.now result false) }
 {
@@ -122,7 +122,7 @@ fn first_marked(marks: &[bool]) -> usize
     0
 }
 
-/// The ranges of weights that are not all 0, between which seats are tied.
+/// The ranges of the seats of weights that are not all 0, if the seats are tied.
 fn ranges_of(alloc: Global, sums: &[u64], house: u32) -> Result<SeatRanges, AllocError>
     requires tied { IsTied sums.now house }
     requires positive { Any (λ w. 0 < w) sums.now }
@@ -141,8 +141,8 @@ fn ranges_of(alloc: Global, sums: &[u64], house: u32) -> Result<SeatRanges, Allo
     })
 }
 
-/// The fewest and the most seats of each group, where those of the groups that take part are tied (GPR section 103): which
-/// groups the lot decides between, and how much.
+/// The fewest and the most seats of each group, if the seats of the groups that take part are tied (GPR section 103). They
+/// show between which groups the lot decides, and about how many seats.
 pub fn upper_ranges(
     alloc: Global,
     voters: &[u64],

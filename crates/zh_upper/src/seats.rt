@@ -1,9 +1,9 @@
-//! The seats of the groups in the whole canton, and the divisor that they follow from.
+//! The seats of the groups in the whole canton, and the divisor from which they follow.
 ghost use Rattle.std.specs.Prelude.{◌≡◌, ◌-◌, ◌≤◌, length, slice_index};
 
 use std::marker::Model;
 
-/// The seats of each group in the whole canton, and the divisor `num / den` that gives them.
+/// The seats of each group in the whole canton and the divisor `num / den` that gives them.
 ///
 /// The fraction is not reduced: `num` is from 1 to 2 * 10^14, `den` from 1 to 800.
 #[derive(Drop)]
@@ -39,14 +39,14 @@ impl Upper {
         self.seats[(group - 1) as usize]
     }
 
-    /// What stands above the line in the divisor.
+    /// The numerator of the divisor.
     pub fn num(&self) -> u64
         ensures { result ≡ self.now.num }
     {
         self.num
     }
 
-    /// What stands below the line in the divisor.
+    /// The denominator of the divisor.
     pub fn den(&self) -> u32
         ensures { result ≡ self.now.den }
     {

@@ -1,4 +1,4 @@
-//! The voter numbers of lists, and the voter sums of the groups.
+//! The voter numbers of the lists and the voter sums of the groups.
 ghost use Rattle.std.specs.Prelude.{◌≡◌, ◌^◌, ◌≤◌, All, IfOk, length};
 ghost use Rattle.zh_totals.specs.Totals.{AreTotals};
 ghost use Rattle.zh_upper.specs.VoterNumbers.{RoundsHalfUp, voter_number, AreVoterSums, voter_sum};
@@ -37,8 +37,8 @@ fn voter_sum(totals: &Totals, seats: &[u32], group: u32) -> u64
     voters
 }
 
-/// The voter sum of each group, from the seats of each constituency, at least 1: the voter number of each list
-/// is rounded before they are added (GPR section 103).
+/// The voter sum of each group, given the seats of each constituency, at least 1 each. The voter number of each list
+/// is rounded before the numbers are added (GPR section 103).
 pub fn voters(alloc: Global, totals: &Totals, seats: &[u32]) -> Result<Vec<u64>, AllocError>
     requires one_each { length seats.now ≡ length totals.now.canton.constituencies }
     requires each_seated { All (λ r. 1 ≤ r) seats.now }

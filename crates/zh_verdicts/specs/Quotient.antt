@@ -1,4 +1,4 @@
--- The quotient of a list whose seats do not follow, as a verdict shows it.
+-- The quotient of a list whose seats do not follow, as verdicts show it.
 use Rattle.std.specs.Prelude.{ℕ, ◌*◌, ◌/◌, ◌%◌, ◌==◌, Bool, if◌then◌else◌, codes, decimal, List, [], ◌++◌}
 use Rattle.zh_sheet_text.specs.SheetText.{divisor_text}
 use Rattle.zh_text.specs.Numbers.{padded}
@@ -7,12 +7,12 @@ use Rattle.zh_check.specs.declared.checked.ListQuotient.{ListQuotient}
 use Rattle.zh_check.specs.declared.checked.ListQuotient.TheVariants.{NoDivisor, OnHalf, RoundsTo}
 use Rattle.zh_verdicts.specs.Wrong.{wrong_line}
 
--- a number of thousandths, with two dots where more digits follow
+-- a number of thousandths with three digits after the dot, and two dots if more digits follow
 abbrev pub cut_off : ℕ → Bool → List ℕ
 cut_off thousandths is_exact =
     decimal (thousandths / 1000) ++ codes "." ++ padded 3 (thousandths % 1000) ++ (if is_exact then [] else codes "..")
 
--- votes over two divisors in millionths, and what they come to
+-- the division of votes by two divisors in millionths, and its quotient
 abbrev pub quotient_text : ℕ → ℕ → ℕ → List ℕ
 quotient_text votes row column =
     let thousandths = votes * 1000000000000000 in
@@ -20,7 +20,7 @@ quotient_text votes row column =
     else (decimal votes ++ codes " / (" ++ divisor_text row ++ codes " x " ++ divisor_text column ++ codes ")" ++ codes " = "
     ++ cut_off (thousandths / (row * column)) (thousandths % (row * column) == 0))
 
--- what it rounds to, if there is a quotient
+-- what the quotient rounds to, if there is one
 abbrev pub rounding_text : ListQuotient → List ℕ
 rounding_text (RoundsTo seats) = codes " rounds to " ++ decimal seats
 rounding_text OnHalf = codes " lies on a half"

@@ -1,4 +1,4 @@
--- What is reported of a text that gives no set-up, or no export of one, in bytes: 10 is LF, 32 the space.
+-- Reports of a text that is not a set-up, or not an export, in bytes: 10 is LF, 32 the space.
 use Rattle.std.specs.Prelude.{ℕ, Bool, ◌==◌, ◌||◌, ◌&&◌, nat_lt, if◌then◌else◌, List, [], ◌∷◌, ◌++◌, length}
 use Rattle.std.specs.Prelude.{Option, Some, None, codes, decimal}
 use Rattle.std.specs.Char.{is_ascii_alphanumeric}
@@ -14,7 +14,7 @@ use Rattle.zh_text.specs.Each.{each_to}
 use Rattle.zh_text.specs.Shown.{shown_at}
 use Rattle.zh_text.specs.declared.shown.ShownNames.TheVariants as names
 
--- the byte of this number, from 1, as it is shown: a byte order mark and each control as a question mark
+-- the byte with this number, from 1, as reports show it: each control character and byte order mark is a question mark
 abbrev pub safe_byte : List ℕ → ℕ → List ℕ
 safe_byte text number = shown_at names.None text number
 
@@ -22,7 +22,7 @@ safe_byte text number = shown_at names.None text number
 abbrev pub is_bare : ℕ → Bool
 is_bare byte = is_ascii_alphanumeric byte || (byte == 95) || (byte == 45)
 
--- a key as it is shown: in quotes, which are 34, if it is empty or has any other byte
+-- a key as reports show it: in quotes, 34, if it is empty or contains any other byte
 abbrev pub shown_key : Key → List ℕ
 shown_key key =
     if nat_lt 0 (length (key_name key)) && list_all is_bare (key_name key) then key_name key
@@ -39,10 +39,10 @@ abbrev pub setup_place_line : Option FaultPlace → List ℕ
 setup_place_line None = []
 setup_place_line (Some place) = setup_place place ++ 10 ∷ []
 
--- the report of the fault of a set-up text: a line with its name, and then that of its place
+-- the report for the fault of a set-up text: a line with its name, then one with its place if that is known
 abbrev pub setup_report : SetupRefusal → List ℕ
 setup_report refusal = setup_name refusal.fault ++ 10 ∷ setup_place_line refusal.place
 
--- the report of what is wrong with a record of an export
+-- the report for a wrong record of an export
 abbrev pub rows_report : HeldFault → List ℕ
 rows_report fault = held_name fault ++ 10 ∷ []

@@ -1,4 +1,5 @@
--- The text of a verdict: the parts that hold, and then the line that is wrong and that the sheet is, or what the sheet is worth.
+-- The text of a verdict: the parts that hold, then the wrong line and that the sheet is wrong; or what the check of a right sheet has
+-- shown.
 use Rattle.std.specs.Prelude.{ℕ, Option, codes, List, ◌++◌}
 use Rattle.zh_check.specs.declared.checked.SheetVerdict.{SheetVerdict}
 use Rattle.zh_check.specs.declared.checked.SheetVerdict.TheVariants.{Right, Differs, OffForm, OffList, OffTotal, OtherVotes, NoSheet}
@@ -12,24 +13,24 @@ use Rattle.zh_verdicts.specs.Quotient.{off_text}
 use Rattle.zh_verdicts.specs.Right.{right_verdict}
 use Rattle.zh_verdicts.specs.Wrong.{differs_text, held_text, total_text}
 
--- a line that is none of its kind
+-- the first line that is not of its kind
 abbrev pub off_form_text : WrongLine → List ℕ
 off_form_text wrong = differs_text wrong ++ codes "sheet wrong\n"
 
--- a list whose votes are not those held
+-- the first list whose votes differ from those held
 abbrev pub other_votes_text : others.OtherVotes → List ℕ
 other_votes_text other = codes "form ok\n" ++ held_text other ++ codes "sheet wrong\n"
 
--- a line that is not that of the sheet that follows
+-- the first line that differs from the sheet that follows
 abbrev pub difference_text : Option HeldRows → WrongLine → List ℕ
 difference_text held wrong =
     form_and_votes held ++ parts_above wrong.should.items ++ differs_text wrong ++ codes "sheet wrong\n"
 
--- a list whose seats do not follow
+-- the first list whose seats do not follow
 abbrev pub off_list_text : Option HeldRows → off_lists.OffList → List ℕ
 off_list_text held off = form_and_votes held ++ off_text off ++ codes "sheet wrong\n"
 
--- a total that is not met
+-- the first total that is not met
 abbrev pub off_total_text : Option HeldRows → off_totals.OffTotal → List ℕ
 off_total_text held off = form_and_votes held ++ total_text off ++ codes "sheet wrong\n"
 
@@ -37,7 +38,7 @@ off_total_text held off = form_and_votes held ++ total_text off ++ codes "sheet 
 abbrev pub no_sheet_text : Option HeldRows → List ℕ
 no_sheet_text held = form_and_votes held ++ codes "no sheet follows from these votes, divisors and seats\nsheet wrong\n"
 
--- the verdict on a sheet, whose votes were compared with the sums of rows, or with nothing
+-- the verdict on a sheet; its votes were compared with the sums of these rows, or with nothing
 abbrev pub verdict_text : Option HeldRows → SheetVerdict → List ℕ
 verdict_text held (Right right) = right_verdict held right
 verdict_text held (OffForm wrong) = off_form_text wrong

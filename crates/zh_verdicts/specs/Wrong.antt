@@ -1,4 +1,4 @@
--- The line of a sheet that is wrong, as a verdict shows it.
+-- A wrong line of a sheet, as verdicts show it.
 use Rattle.std.specs.Prelude.{ℕ, ◌==◌, ◌&&◌, not, Bool, if◌then◌else◌, codes, decimal}
 use Rattle.std.specs.Prelude.{List, [], ◌∷◌, ◌++◌}
 use Rattle.std.specs.List.{list_any}
@@ -9,20 +9,20 @@ use Rattle.zh_check.specs.declared.checked.OffTotal.{OffTotal}
 use Rattle.zh_check.specs.declared.checked.OtherVotes.{OtherVotes}
 use Rattle.zh_check.specs.declared.checked.WrongLine.{WrongLine}
 
--- a line as it is shown, with the names of a byte order mark and of a CR
+-- a line as verdicts show it, with names for a byte order mark and a CR
 abbrev pub shown_line : List ℕ → List ℕ
 shown_line line = shown_text names.MarkAndReturn line
 
--- a line that was found, or that there is nothing
+-- a line that was found, or `nothing`
 abbrev pub found_text : List ℕ → List ℕ
 found_text [] = codes "nothing"
 found_text (byte ∷ line) = shown_line (byte ∷ line)
 
--- a line that is what it should be lacks its end; but where dots, which are 46, stand for words, it may lack those
+-- a line lacks only its end if it is what it should be; a line with a dot, 46, does not count, because dots can stand for words
 abbrev pub lacks_end : List ℕ → List ℕ → Bool
 lacks_end found should = bytes_eq found should && not (list_any (λ byte. byte == 46) should)
 
--- what it should be; after the last line there should be none
+-- what the line should be; after the last line there should be no line
 abbrev pub should_text : List ℕ → List ℕ → List ℕ
 should_text found [] = codes "no line"
 should_text found (byte ∷ line) =
@@ -32,19 +32,19 @@ should_text found (byte ∷ line) =
 abbrev pub wrong_line : ℕ → List ℕ → List ℕ
 wrong_line line found = codes "line " ++ decimal line ++ codes ": " ++ found_text found
 
--- a line that is wrong, and what it should be
+-- a wrong line, and what it should be
 abbrev pub differs_text : WrongLine → List ℕ
 differs_text wrong =
     wrong_line wrong.line wrong.found.items ++ codes ", should be: " ++ should_text wrong.found.items wrong.should.items ++ codes "\n"
 
--- the line of a constituency or group, and how many seats its lists have together
+-- the line of a constituency or group, and the sum of the seats of its lists
 abbrev pub sum_text : OffTotal → List ℕ
 sum_text off = wrong_line off.line off.found.items ++ codes ": its lists have " ++ decimal off.seats
 
--- one whose lists have other seats together, and its own seats
+-- the line of one whose lists do not add up to its seats, and these seats
 abbrev pub total_text : OffTotal → List ℕ
 total_text off = sum_text off ++ codes " seats, should be: " ++ decimal off.total ++ codes "\n"
 
--- the line of a list whose votes are not those held, and those
+-- the line of a list whose votes differ from those held, and the votes held
 abbrev pub held_text : OtherVotes → List ℕ
 held_text other = wrong_line other.line other.found.items ++ codes ": the rows held have " ++ decimal other.held ++ codes " votes\n"

@@ -1,4 +1,4 @@
-//! The check of a sheet, and its verdict as it is spelled.
+//! The check of a sheet, with the text of its verdict.
 ghost use Rattle.std.specs.Option.{option_copied};
 ghost use Rattle.std.specs.Prelude.{◌≡◌, IfOk, option_map};
 ghost use Rattle.zh_tables.specs.HeldRows.{rows_held};
@@ -12,10 +12,10 @@ use zh_districts::Setup;
 use zh_tables::HeldRows;
 use zh_totals::Totals;
 
-/// How many bytes of a sheet are looked at at most: one more than the longest has, so that a longer one is noticed.
+/// The most bytes of a sheet that are read: one more than the longest sheet has, so that a longer text is noticed.
 pub const SHEET_FRONT: usize = 280_065;
 
-/// The sums of an export, where there is one.
+/// The sums of an export, if there is one.
 fn totals_in<'a, 's>(held: Option<&'a HeldSums<'s>>) -> Option<&'a Totals<'s>>
     ensures { option_copied result ≡ option_map (λ sums. sums.totals) (option_copied held.entry) }
 {
@@ -25,7 +25,7 @@ fn totals_in<'a, 's>(held: Option<&'a HeldSums<'s>>) -> Option<&'a Totals<'s>>
     }
 }
 
-/// How many rows it has, of those that can be held.
+/// How many rows an export has, and how many returns are due, if there is an export.
 fn rows_in(setup: &Setup, held: Option<&HeldSums<'_>>) -> Option<HeldRows>
     ensures { result ≡ option_map (λ sums. rows_held setup.now sums.rows) (option_copied held.entry) }
 {
@@ -35,14 +35,14 @@ fn rows_in(setup: &Setup, held: Option<&HeldSums<'_>>) -> Option<HeldRows>
     }
 }
 
-/// The text of a verdict, and whether it says that the sheet is right.
+/// The text of a verdict, and whether the sheet is right.
 #[derive(Drop)]
 pub struct SpelledVerdict {
     pub is_right: bool,
     pub text: Vec<u8>,
 }
 
-/// Checks a sheet by a set-up and the sums of an export, if there is one, and spells the verdict on it.
+/// Checks a sheet, given a set-up and the sums of an export if there is one, and spells the verdict.
 pub fn spelled_verdict(
     alloc: Global,
     setup: &Setup,

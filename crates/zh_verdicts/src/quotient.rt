@@ -8,14 +8,14 @@ use std::alloc::AllocError;
 use zh_check::{ListQuotient, OffList};
 use zh_text::{millionths_text, padded, push_number};
 
-/// Puts a divisor in millionths at the end, with six digits after the dot.
+/// Appends a divisor, given in millionths, with six digits after the dot.
 fn push_divisor(text: &mut Vec<u8>, millionths: u64) -> Result<(), AllocError>
     ensures { OnOk result (text.new.items ≡ text.old.items ++ divisor_text millionths) }
 {
     text.extend_from_slice(millionths_text(u128::from(millionths)).as_slice())
 }
 
-/// Puts a number of thousandths at the end, with two dots where more digits follow.
+/// Appends a number of thousandths with three digits after the dot, and two dots if more digits follow.
 fn push_cut_off(text: &mut Vec<u8>, thousandths: u128, is_exact: bool) -> Result<(), AllocError>
     ensures { OnOk result (text.new.items ≡ text.old.items ++ cut_off thousandths is_exact) }
 {
@@ -28,7 +28,7 @@ fn push_cut_off(text: &mut Vec<u8>, thousandths: u128, is_exact: bool) -> Result
     text.extend_from_slice(b"..")
 }
 
-/// Puts the votes over both divisors, which are in millionths, at the end.
+/// Appends the division of the votes by both divisors, which are in millionths.
 fn push_division(
     text: &mut Vec<u8>,
     votes: u64,
@@ -46,7 +46,7 @@ fn push_division(
     text.extend_from_slice(b")")
 }
 
-/// Puts the votes over both divisors, and what they come to, at the end.
+/// Appends this division and its quotient, or `a divisor is missing`.
 fn push_quotient(
     text: &mut Vec<u8>,
     votes: u64,
@@ -65,7 +65,7 @@ fn push_quotient(
     push_cut_off(text, thousandths / product, thousandths % product == 0)
 }
 
-/// Puts what a quotient rounds to at the end, if there is one.
+/// Appends what a quotient rounds to, if there is a quotient.
 fn push_rounding(text: &mut Vec<u8>, quotient: ListQuotient) -> Result<(), AllocError>
     ensures { OnOk result (text.new.items ≡ text.old.items ++ rounding_text quotient) }
 {
@@ -79,7 +79,7 @@ fn push_rounding(text: &mut Vec<u8>, quotient: ListQuotient) -> Result<(), Alloc
     }
 }
 
-/// Puts the line of a list whose seats do not follow at the end, with its quotient.
+/// Appends the line of a list whose seats do not follow, with its quotient.
 pub(crate) fn push_off(text: &mut Vec<u8>, off: &OffList) -> Result<(), AllocError>
     ensures { OnOk result (text.new.items ≡ text.old.items ++ off_text off.now) }
 {

@@ -1,5 +1,5 @@
-//! What is reported where the text of a set-up or of an export gives none: the name of the fault in a line, and then its place, if
-//! that is known.
+//! Reports of a text that is not a set-up, or not an export: a line with the name of the fault, and then one with its
+//! place if that is known.
 ghost use Rattle.std.specs.List.{list_all};
 ghost use Rattle.std.specs.Prelude.{◌≡◌, ◌≤◌, ◌++◌, IfOk, length, ◌+◌, [], ◌∷◌};
 ghost use Rattle.zh_text.specs.Each.{each_to};
@@ -11,7 +11,7 @@ use zh_csv::HeldFault;
 use zh_setups::{FaultPlace, Key, SetupRefusal};
 use zh_text::{ShownNames, push, push_bytes, push_numeral, shown_at};
 
-/// The report of the fault of a set-up text.
+/// The report for the fault of a set-up text.
 pub fn setup_report(alloc: Global, refusal: &SetupRefusal) -> Result<Vec<u8>, AllocError>
     ensures { IfOk result (λ text. text.items ≡ setup_report refusal.now) }
 {
@@ -25,7 +25,7 @@ pub fn setup_report(alloc: Global, refusal: &SetupRefusal) -> Result<Vec<u8>, Al
     Ok(text)
 }
 
-/// The report of what is wrong with a record of an export.
+/// The report for a wrong record of an export.
 pub fn rows_report(alloc: Global, fault: HeldFault) -> Result<Vec<u8>, AllocError>
     ensures { IfOk result (λ text. text.items ≡ rows_report fault) }
 {
@@ -35,10 +35,10 @@ pub fn rows_report(alloc: Global, fault: HeldFault) -> Result<Vec<u8>, AllocErro
     Ok(text)
 }
 
-/// A key as it is shown: at most 40 bytes, and quotes.
+/// A key in a report: at most 40 bytes, and quotes.
 type ShownKey = ArrayVec<u8, 42>;
 
-/// Writes so many bytes of a text as they are shown.
+/// Appends the first `count` bytes of a text, with `?` for each control character and byte order mark.
 pub fn push_shown<const N: usize>(shown: &mut ArrayVec<u8, N>, text: &[u8], count: usize)
     requires within { count ≤ length text.now }
     requires room { length shown.old.items + count ≤ N }
@@ -50,7 +50,7 @@ pub fn push_shown<const N: usize>(shown: &mut ArrayVec<u8, N>, text: &[u8], coun
     }
 }
 
-/// Whether this is a letter, a digit, `_` or `-`.
+/// Whether a byte is a letter, a digit, `_` or `-`.
 fn is_bare(byte: u8) -> bool
     ensures { result ≡ is_bare byte }
 {
@@ -68,7 +68,7 @@ fn are_bare(name: &[u8]) -> bool
     true
 }
 
-/// A name in quotes, as it is shown.
+/// A name in quotes, as reports show it.
 fn quoted(name: &[u8]) -> ShownKey
     requires { length name.now ≤ 40 }
     ensures shown { result.items ≡ 34 ∷ each_to (length name.now) (safe_byte name.now) ++ 34 ∷ [] }
@@ -81,7 +81,7 @@ fn quoted(name: &[u8]) -> ShownKey
     shown
 }
 
-/// A key as it is shown: in quotes, if it is empty or has any other byte than letters, digits, `_` and `-`.
+/// A key as reports show it: in quotes if it is empty or contains any byte other than letters, digits, `_` and `-`.
 fn shown_key(key: &Key) -> ShownKey
     ensures shown { result.items ≡ shown_key key.now }
     ensures short { length result.items ≤ 42 }
@@ -95,10 +95,10 @@ fn shown_key(key: &Key) -> ShownKey
     quoted(name)
 }
 
-/// A place as it is shown.
+/// A place in a report.
 pub type ShownPlace = ArrayVec<u8, 80>;
 
-/// A place in the text of a set-up as it is shown: a position, or a key at the top or in a table.
+/// A place in the text of a set-up as reports show it: a position, or a key at the top or in a table.
 pub fn shown_place(place: &FaultPlace) -> ShownPlace
     ensures place { result.items ≡ setup_place place.now }
     ensures short { length result.items ≤ 80 }

@@ -1,4 +1,4 @@
-//! What is said of the parts of a sheet that hold, and of a sheet that is right.
+//! The text of the parts of a sheet that hold, and of the verdict on a right sheet.
 ghost use Rattle.std.specs.Prelude.{◌≡◌, ◌++◌, OnOk, ◌≤◌, IfOk};
 ghost use Rattle.zh_verdicts.specs.Parts.{form_and_votes, parts_above, parts_text, rows_part, votes_line};
 ghost use Rattle.zh_verdicts.specs.Right.{commands_part, desk_part, kind_part, missing_line, right_verdict, unchecked_line, worth_line};
@@ -8,7 +8,7 @@ use zh_check::RightSheet;
 use zh_tables::HeldRows;
 use zh_text::push_number;
 
-/// Puts how many rows there are at the end, of how many that are due.
+/// Appends the number of rows and the number of returns due.
 pub(crate) fn push_rows(text: &mut Vec<u8>, rows: HeldRows) -> Result<(), AllocError>
     ensures { OnOk result (text.new.items ≡ text.old.items ++ rows_part rows) }
 {
@@ -18,7 +18,7 @@ pub(crate) fn push_rows(text: &mut Vec<u8>, rows: HeldRows) -> Result<(), AllocE
     text.extend_from_slice(b" rows")
 }
 
-/// Puts the line that the votes hold at the end.
+/// Appends the line about the votes: they are the sums of these rows, or were not compared.
 fn push_votes(text: &mut Vec<u8>, held: Option<HeldRows>) -> Result<(), AllocError>
     ensures { OnOk result (text.new.items ≡ text.old.items ++ votes_line held) }
 {
@@ -30,7 +30,7 @@ fn push_votes(text: &mut Vec<u8>, held: Option<HeldRows>) -> Result<(), AllocErr
     text.extend_from_slice(b"\n")
 }
 
-/// Puts that the form and the votes hold at the end.
+/// Appends that the form and the votes hold.
 pub(crate) fn push_form_and_votes(
     text: &mut Vec<u8>,
     held: Option<HeldRows>,
@@ -41,7 +41,7 @@ pub(crate) fn push_form_and_votes(
     push_votes(text, held)
 }
 
-/// Puts the parts at the end that hold above the first line that is wrong, by what that line should be.
+/// Appends the further parts that hold above the first wrong line, given what that line should be.
 pub(crate) fn push_parts_above(text: &mut Vec<u8>, should: &[u8]) -> Result<(), AllocError>
     ensures { OnOk result (text.new.items ≡ text.old.items ++ parts_above should.now) }
 {
@@ -54,7 +54,7 @@ pub(crate) fn push_parts_above(text: &mut Vec<u8>, should: &[u8]) -> Result<(), 
     }
 }
 
-/// Puts that each part holds at the end.
+/// Appends that all parts hold.
 pub(crate) fn push_parts(text: &mut Vec<u8>, held: Option<HeldRows>) -> Result<(), AllocError>
     ensures { OnOk result (text.new.items ≡ text.old.items ++ parts_text held) }
 {
@@ -62,7 +62,7 @@ pub(crate) fn push_parts(text: &mut Vec<u8>, held: Option<HeldRows>) -> Result<(
     text.extend_from_slice(b"seats ok\nparticipation ok\nvoters ok\ngroups ok\nlists ok\n")
 }
 
-/// Puts whether a sheet is final at the end.
+/// Appends whether a sheet is final.
 fn push_kind(text: &mut Vec<u8>, is_final: bool) -> Result<(), AllocError>
     ensures { OnOk result (text.new.items ≡ text.old.items ++ kind_part is_final) }
 {
@@ -73,7 +73,7 @@ fn push_kind(text: &mut Vec<u8>, is_final: bool) -> Result<(), AllocError>
     }
 }
 
-/// Puts how many commands were accepted at the end.
+/// Appends how many commands were accepted.
 fn push_commands(text: &mut Vec<u8>, accepted: u64) -> Result<(), AllocError>
     ensures { OnOk result (text.new.items ≡ text.old.items ++ commands_part accepted) }
 {
@@ -81,7 +81,7 @@ fn push_commands(text: &mut Vec<u8>, accepted: u64) -> Result<(), AllocError>
     push_number(text, accepted)
 }
 
-/// Puts the desk at the end.
+/// Appends the desk and a line feed.
 fn push_desk(text: &mut Vec<u8>, desk: u8) -> Result<(), AllocError>
     ensures { OnOk result (text.new.items ≡ text.old.items ++ desk_part desk) }
 {
@@ -90,7 +90,7 @@ fn push_desk(text: &mut Vec<u8>, desk: u8) -> Result<(), AllocError>
     text.extend_from_slice(b"\n")
 }
 
-/// Puts what no check can tell at the end.
+/// Appends the line about what a check can't know.
 fn push_unchecked(text: &mut Vec<u8>, right: &RightSheet<'_>) -> Result<(), AllocError>
     ensures { OnOk result (text.new.items ≡ text.old.items ++ unchecked_line right.now) }
 {
@@ -99,8 +99,8 @@ fn push_unchecked(text: &mut Vec<u8>, right: &RightSheet<'_>) -> Result<(), Allo
     push_desk(text, right.desk)
 }
 
-/// What no check can tell of a right sheet, in a line with its LF: that it is final or provisional, how many commands were
-/// accepted before, and by which desk it was asked for (docs/FORMATS.md).
+/// The line about what a check can't know of a right sheet: whether it is final or provisional, how many commands were
+/// accepted before, and which desk asked for it (docs/FORMATS.md). It ends with LF.
 pub fn unchecked_line(alloc: Global, right: &RightSheet<'_>) -> Result<Vec<u8>, AllocError>
     ensures { IfOk result (λ line. line.items ≡ unchecked_line right.now) }
 {
@@ -109,7 +109,7 @@ pub fn unchecked_line(alloc: Global, right: &RightSheet<'_>) -> Result<Vec<u8>, 
     Ok(line)
 }
 
-/// Puts that the sheet is right for the rows that are there at the end, and how many are missing.
+/// Appends that the sheet is right for the rows that are held, and how many returns are missing.
 fn push_missing(text: &mut Vec<u8>, rows: HeldRows) -> Result<(), AllocError>
     requires { rows.held ≤ rows.due }
     ensures { OnOk result (text.new.items ≡ text.old.items ++ missing_line rows) }
@@ -121,7 +121,7 @@ fn push_missing(text: &mut Vec<u8>, rows: HeldRows) -> Result<(), AllocError>
     text.extend_from_slice(b" returns are missing\n")
 }
 
-/// Puts what the sheet is worth at the end.
+/// Appends the last line: what the check of a right sheet has shown.
 fn push_worth(text: &mut Vec<u8>, held: Option<HeldRows>) -> Result<(), AllocError>
     ensures { OnOk result (text.new.items ≡ text.old.items ++ worth_line held) }
 {
@@ -134,7 +134,7 @@ fn push_worth(text: &mut Vec<u8>, held: Option<HeldRows>) -> Result<(), AllocErr
     }
 }
 
-/// Puts the lines of a sheet that is right at the end: that each part holds, what no check can tell, and what it is worth.
+/// Appends the verdict on a right sheet: that all parts hold, what a check can't know, and what it has shown.
 pub(crate) fn push_right(
     text: &mut Vec<u8>,
     right: &RightSheet<'_>,

@@ -10,7 +10,7 @@ use std::alloc::{AllocError, Global};
 use zh_check::{OffList, OffTotal, OtherVotes, SheetVerdict, WrongLine};
 use zh_tables::HeldRows;
 
-/// Puts a line that is none of its kind at the end, and that the sheet is wrong.
+/// Appends the first line that is not of its kind, and that the sheet is wrong.
 fn push_off_form(text: &mut Vec<u8>, wrong: &WrongLine) -> Result<(), AllocError>
     ensures { OnOk result (text.new.items ≡ text.old.items ++ off_form_text wrong.now) }
 {
@@ -18,7 +18,7 @@ fn push_off_form(text: &mut Vec<u8>, wrong: &WrongLine) -> Result<(), AllocError
     text.extend_from_slice(b"sheet wrong\n")
 }
 
-/// Puts a list whose votes are not those held at the end, after the form, and that the sheet is wrong.
+/// Appends that the form holds, the first list whose votes differ from those held, and that the sheet is wrong.
 fn push_other_votes(text: &mut Vec<u8>, other: &OtherVotes) -> Result<(), AllocError>
     ensures { OnOk result (text.new.items ≡ text.old.items ++ other_votes_text other.now) }
 {
@@ -27,7 +27,7 @@ fn push_other_votes(text: &mut Vec<u8>, other: &OtherVotes) -> Result<(), AllocE
     text.extend_from_slice(b"sheet wrong\n")
 }
 
-/// Puts a line that is not that of the sheet that follows at the end, after the parts above it, and that the sheet is wrong.
+/// Appends the parts that hold, the first line that differs from the sheet that follows, and that the sheet is wrong.
 fn push_difference(
     text: &mut Vec<u8>,
     wrong: &WrongLine,
@@ -41,7 +41,7 @@ fn push_difference(
     text.extend_from_slice(b"sheet wrong\n")
 }
 
-/// Puts a list whose seats do not follow at the end, after the form and the votes, and that the sheet is wrong.
+/// Appends that the form and the votes hold, the first list whose seats do not follow, and that the sheet is wrong.
 fn push_off_list(
     text: &mut Vec<u8>,
     off: &OffList,
@@ -54,7 +54,7 @@ fn push_off_list(
     text.extend_from_slice(b"sheet wrong\n")
 }
 
-/// Puts a total that is not met at the end, after the form and the votes, and that the sheet is wrong.
+/// Appends that the form and the votes hold, the first total that is not met, and that the sheet is wrong.
 fn push_off_total(
     text: &mut Vec<u8>,
     off: &OffTotal,
@@ -67,7 +67,7 @@ fn push_off_total(
     text.extend_from_slice(b"sheet wrong\n")
 }
 
-/// Puts that no sheet follows at the end, after the form and the votes, and that the sheet is wrong.
+/// Appends that the form and the votes hold, that no sheet follows, and that the sheet is wrong.
 fn push_no_sheet(text: &mut Vec<u8>, held: Option<HeldRows>) -> Result<(), AllocError>
     ensures { OnOk result (text.new.items ≡ text.old.items ++ no_sheet_text held) }
 {
@@ -75,7 +75,7 @@ fn push_no_sheet(text: &mut Vec<u8>, held: Option<HeldRows>) -> Result<(), Alloc
     text.extend_from_slice(b"no sheet follows from these votes, divisors and seats\nsheet wrong\n")
 }
 
-/// The text of a verdict on a sheet, whose votes were compared with the sums of rows, or with nothing.
+/// The text of a verdict on a sheet. Its votes were compared with the sums of these rows, or with nothing.
 pub(crate) fn verdict_text(
     alloc: Global,
     verdict: &SheetVerdict<'_>,

@@ -1,4 +1,4 @@
-//! The line of a sheet that is wrong, and what it should be.
+//! A wrong line of a sheet, and what it should be.
 ghost use Rattle.std.specs.Prelude.{◌≡◌, ◌++◌, OnOk};
 ghost use Rattle.zh_verdicts.specs.Wrong.{differs_text, found_text, held_text, lacks_end, should_text, shown_line, sum_text, total_text};
 ghost use Rattle.zh_verdicts.specs.Wrong.{wrong_line};
@@ -7,14 +7,15 @@ use std::alloc::AllocError;
 use zh_check::{OffTotal, OtherVotes, WrongLine};
 use zh_text::{ShownNames, push_number, push_shown};
 
-/// Puts a line at the end as it is shown. A copy may have a CR at the end of each line, so it has a name.
+/// Appends a line as verdicts show it. CRs are shown by name, because a copied text can have one at the end of each
+/// line.
 fn push_shown_line(text: &mut Vec<u8>, line: &[u8]) -> Result<(), AllocError>
     ensures { OnOk result (text.new.items ≡ text.old.items ++ shown_line line.now) }
 {
     push_shown(text, ShownNames::MarkAndReturn, line)
 }
 
-/// Puts a line that was found at the end, or that there is nothing.
+/// Appends a line that was found, or `nothing`.
 fn push_found(text: &mut Vec<u8>, found: &[u8]) -> Result<(), AllocError>
     ensures { OnOk result (text.new.items ≡ text.old.items ++ found_text found.now) }
 {
@@ -24,14 +25,15 @@ fn push_found(text: &mut Vec<u8>, found: &[u8]) -> Result<(), AllocError>
     push_shown_line(text, found)
 }
 
-/// Whether a line that was found lacks only its end. Where dots stand for words it may lack those.
+/// Whether a line that was found lacks only its end: it is what it should be. A line with a dot does not count, because
+/// dots can stand for words.
 fn lacks_end(found: &[u8], should: &[u8]) -> bool
     ensures { result ≡ lacks_end found.now should.now }
 {
     found == should && !should.contains(&b'.')
 }
 
-/// Puts what a line should be at the end. After the last line there should be none.
+/// Appends what a line should be. After the last line there should be no line.
 fn push_should(text: &mut Vec<u8>, found: &[u8], should: &[u8]) -> Result<(), AllocError>
     ensures { OnOk result (text.new.items ≡ text.old.items ++ should_text found.now should.now) }
 {
@@ -45,7 +47,7 @@ fn push_should(text: &mut Vec<u8>, found: &[u8], should: &[u8]) -> Result<(), Al
     Ok(())
 }
 
-/// Puts the number of a line that is wrong, and the line, at the end.
+/// Appends the number of a wrong line, and the line.
 pub(crate) fn push_wrong_line(text: &mut Vec<u8>, line: u64, found: &[u8]) -> Result<(), AllocError>
     ensures { OnOk result (text.new.items ≡ text.old.items ++ wrong_line line found.now) }
 {
@@ -55,7 +57,7 @@ pub(crate) fn push_wrong_line(text: &mut Vec<u8>, line: u64, found: &[u8]) -> Re
     push_found(text, found)
 }
 
-/// Puts the line that is wrong at the end, and what it should be.
+/// Appends a wrong line and what it should be.
 pub(crate) fn push_differs(text: &mut Vec<u8>, wrong: &WrongLine) -> Result<(), AllocError>
     ensures { OnOk result (text.new.items ≡ text.old.items ++ differs_text wrong.now) }
 {
@@ -65,7 +67,7 @@ pub(crate) fn push_differs(text: &mut Vec<u8>, wrong: &WrongLine) -> Result<(), 
     text.extend_from_slice(b"\n")
 }
 
-/// Puts the line of a constituency or group at the end, and how many seats its lists have together.
+/// Appends the line of a constituency or group, and the sum of the seats of its lists.
 fn push_sum(text: &mut Vec<u8>, off: &OffTotal) -> Result<(), AllocError>
     ensures { OnOk result (text.new.items ≡ text.old.items ++ sum_text off.now) }
 {
@@ -74,7 +76,7 @@ fn push_sum(text: &mut Vec<u8>, off: &OffTotal) -> Result<(), AllocError>
     push_number(text, off.seats)
 }
 
-/// Puts the line of a constituency or group at the end whose lists have other seats together, and its own seats.
+/// Appends the line of a constituency or group whose lists do not add up to its seats, and these seats.
 pub(crate) fn push_total(text: &mut Vec<u8>, off: &OffTotal) -> Result<(), AllocError>
     ensures { OnOk result (text.new.items ≡ text.old.items ++ total_text off.now) }
 {
@@ -84,7 +86,7 @@ pub(crate) fn push_total(text: &mut Vec<u8>, off: &OffTotal) -> Result<(), Alloc
     text.extend_from_slice(b"\n")
 }
 
-/// Puts the line of a list at the end whose votes are not those held, and those.
+/// Appends the line of a list whose votes differ from those held, and the votes held.
 pub(crate) fn push_held(text: &mut Vec<u8>, other: &OtherVotes) -> Result<(), AllocError>
     ensures { OnOk result (text.new.items ≡ text.old.items ++ held_text other.now) }
 {

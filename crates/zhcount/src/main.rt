@@ -10,7 +10,7 @@ use std::{env, io};
 use unknown::UnknownContent;
 use zh_file::{FolderFiles, HostFolder, Remark, World};
 
-/// Hands the arguments, the streams and the files of the operating system on, and returns the status.
+/// Passes the operating system's arguments, streams and files to `run` and returns the status.
 fn main(rt: HostRuntime) -> ExitCode {
     status_of(run(
         rt.alloc(),
@@ -26,7 +26,7 @@ fn main(rt: HostRuntime) -> ExitCode {
     ))
 }
 
-/// The arguments, the program's name first.
+/// The arguments, starting with the program's name.
 fn arguments(rt: &HostRuntime) -> io::Result<Vec<String>> {
     Ok(env::args(rt)?.collect(rt.alloc())?)
 }

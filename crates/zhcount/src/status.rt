@@ -1,4 +1,4 @@
-//! The program on what the operating system gives.
+//! Runs the program on the operating system's arguments and turns its status into an exit code.
 
 ghost use Rattle.std.specs.IoError.{error_kind};
 ghost use Rattle.std.specs.Prelude.{◌≡◌, drop, map, string_bytes, MatchResult};
@@ -26,8 +26,8 @@ fn after_name(all: &[String]) -> &[String]
     }
 }
 
-/// Does what the program does on the arguments after its name, and makes its status that of the process. Where they
-/// can't be read, that is said, and nothing is done.
+/// Runs the program on the arguments after its name and returns its status as the exit code of the process. If the arguments
+/// can't be read, it reports why and does nothing else.
 pub(crate) fn run<I: Read, O: Write, E: Write, F: Files>(
     alloc: Global,
     arguments: io::Result<Vec<String>>,
@@ -54,8 +54,8 @@ pub(crate) fn run<I: Read, O: Write, E: Write, F: Files>(
     }
 }
 
-/// How a task ended. What it hands over is not let go: the system closes the disk's file once the process has ended, and no
-/// destructor runs on it before.
+/// The result of a task. What the task hands over is forgotten, not dropped: no destructor runs on it, and the operating system
+/// closes the disk's file when the process ends.
 pub(crate) fn status_of<T, D: Drop>(ended: Ended<T, D>) -> T
     ensures { result ≡ ended.result }
 {

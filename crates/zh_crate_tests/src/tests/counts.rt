@@ -1,4 +1,4 @@
-//! What no line of a desk and no disk shows of a count. All else are cases of `zh_cases`.
+//! Behaviour of a count that no desk's line and no disk shows. The rest is tested by the cases of `zh_cases`.
 
 ghost use Rattle.std.specs.Prelude.{◌≡◌};
 ghost use Rattle.zh_returns.specs.Origin.{origin_of};
@@ -20,8 +20,8 @@ fn returned(number: u32, votes: u32) -> Command<'static>
     Command::Return { desk: 1, row }
 }
 
-// `1 return 3 1 1 0`, `1 return 2 3 3 0` and `1 return 1 9 1 0` as a batch: the first is accepted, the second leaves a
-// gap, and the last is of a list that does not stand.
+// `1 return 3 1 1 0`, `1 return 2 3 3 0` and `1 return 1 9 1 0` as a batch. The first row is accepted, the second leaves a
+// gap, and the third is for a list that does not take part.
 const REFUSED: [u8; 37] = [
     0x08, 0x01, 0x00, 0x03, // a batch of three rows
     0x00, 0x03, 0x01, 0x00, 0x00, 0x00, 0x01, 0x00, 0x00, 0x00, 0x00, // the first
@@ -29,7 +29,7 @@ const REFUSED: [u8; 37] = [
     0x00, 0x01, 0x09, 0x00, 0x00, 0x00, 0x01, 0x00, 0x00, 0x00, 0x00, // the last
 ];
 
-/// What becomes of a command of these bytes, none where they are no command.
+/// The verdict on a command of these bytes, or `None` if they are not a command.
 fn judged(count: &Count<'_>, bytes: &[u8]) -> Option<Verdict> {
     Some(count.judge(&decode_command(bytes, Format::Two)?))
 }
@@ -44,7 +44,7 @@ fn see_refusals(rt: &impl Abort, count: &mut Count<'_>) {
     assert!(rt; count.judge(&returned(0, 525)) == Verdict::Refused(Reason::Stale));
 }
 
-// No line has number 0, and no batch of a desk a list that does not stand.
+// No line has number 0, and no desk's batch has a row for a list that does not take part.
 #[test]
 fn commands_that_no_line_asks_for_are_refused(rt: HostRuntime) -> Result<(), Fail> {
     let setup = rehearsal(rt.alloc())?;

@@ -6,7 +6,7 @@ use std::test::Fail;
 use zh_disk::DISK_LENGTH;
 use zh_file::{FileCause, FileFault, MemoryFolder, Stood, open, open_or_make};
 
-/// A folder in which so many bytes stand at `d`.
+/// A folder with a file of this many bytes at `d`.
 fn with_file(alloc: Global, length: u64) -> io::Result<MemoryFolder<()>> {
     let mut bytes = Vec::new(alloc);
     bytes.resize(length as usize, 7)?;
@@ -15,7 +15,7 @@ fn with_file(alloc: Global, length: u64) -> io::Result<MemoryFolder<()>> {
     Ok(folder)
 }
 
-/// The disk and its companion, if they are there, each with its length, as in `d 0, d-wal 0`.
+/// The disk and its companion, if they exist, each with its length, for example `d 0, d-wal 0`.
 fn listed(alloc: Global, folder: &MemoryFolder<()>) -> io::Result<String> {
     let mut text = String::new(alloc);
     for path in ["d", "d-wal"] {
@@ -30,24 +30,24 @@ fn listed(alloc: Global, folder: &MemoryFolder<()>) -> io::Result<String> {
     Ok(text)
 }
 
-/// Whether these stand there.
+/// Whether the folder contains exactly these files.
 fn stand(alloc: Global, folder: &MemoryFolder<()>, there: &str) -> io::Result<bool> {
     Ok(listed(alloc, folder)?.as_str() == there)
 }
 
-/// What an opening of the disk at a path reports.
+/// What opening the disk at a path reports.
 fn opened(folder: &mut MemoryFolder<()>, path: &str) -> Option<FileFault> {
     open(folder, (), path).err()
 }
 
-/// The same where one may be made.
+/// The same if a disk can be made.
 fn made(folder: &mut MemoryFolder<()>, path: &str) -> Option<FileFault> {
     open_or_make(folder, (), path).err()
 }
 
 #[test]
 fn an_opening_fails_at_each_call(rt: HostRuntime) -> Result<(), Fail> {
-    // the calls of the folder and of the file that pass, what is reported, and what stands there then
+    // the calls of the folder and of the file that succeed, what is reported, and what the folder contains afterwards
     let cases = [
         (
             0,
@@ -96,7 +96,7 @@ fn a_making_fails_at_each_call(rt: HostRuntime) -> Result<(), Fail> {
         (6, 0, Some(FileFault::Device(FileCause::Failed)), "d 0"),
         (6, 1, Some(FileFault::Device(FileCause::Failed)), "d 0"),
         (6, 2, Some(FileFault::Device(FileCause::Failed)), "d 0"),
-        // of the file: its length, the length of a disk, 115 blocks of zeros, a sync, and its length again
+        // calls of the file: its length, the length of a disk, 115 blocks of zeros, a sync, and its length again
         (6, 3, Some(FileFault::Device(FileCause::Failed)), "d 0"),
         (6, 116, Some(FileFault::Device(FileCause::Failed)), "d 0"),
         (6, 117, Some(FileFault::Device(FileCause::Failed)), "d 0"),
@@ -115,7 +115,7 @@ fn a_making_fails_at_each_call(rt: HostRuntime) -> Result<(), Fail> {
 
 #[test]
 fn no_disk_is_left_alone(rt: HostRuntime) -> Result<(), Fail> {
-    // the bytes that stand there, and what is reported of a disk there, and of one that may be made
+    // the length of the file, what opening it reports, and what opening it reports if a disk can be made
     let cases = [
         (0, Some(FileFault::Size(0)), None),
         (1, Some(FileFault::Size(1)), Some(FileFault::Size(1))),
@@ -157,7 +157,7 @@ fn a_lock_is_refused(rt: HostRuntime) -> Result<(), Fail> {
     folder.is_busy = true;
     assert!(rt; opened(&mut folder, "d") == Some(FileFault::Busy));
     assert!(rt; made(&mut folder, "d") == Some(FileFault::Busy));
-    // and one with bytes is kept beside a disk
+    // without the lock, the disk opens, and a companion with bytes is left next to it
     folder.is_busy = false;
     let companion = vec![in rt.alloc(); 7]?;
     folder.put("d-wal", Stood::File(companion))?;

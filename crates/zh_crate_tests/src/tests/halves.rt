@@ -1,4 +1,4 @@
-//! Quotients on a half, by themselves.
+//! Quotients exactly on a half.
 ghost use Rattle.std.specs.Prelude.{◌≡◌, ◌≤◌, ◌*◌, ◌^◌, All, length};
 ghost use Rattle.zh_matrices.specs.Divisors.{AreWithin};
 
@@ -7,7 +7,7 @@ use zh_matrices::{Matrix, Proposal, Rounding, follows};
 
 const ONE: u64 = 1_000_000;
 
-/// Whether seats follow from these divisors, though not strictly.
+/// Whether the seats follow from these divisors with weak rounding, but not with strict rounding.
 fn is_weak_alone(
     matrix: &Matrix,
     totals: &[u32],

@@ -1,5 +1,5 @@
-//! Allocations that are refused, one in each run: tests/test_refused.py runs these tests once for each that is
-//! made. What is called is called once more where memory was refused to it.
+//! Refused allocations, one in each run: tests/test_refused.py runs these tests once for each allocation that they make. A
+//! call to which memory was refused is made again.
 
 use std::alloc::Global;
 use std::process::Abort;
@@ -41,7 +41,7 @@ name = "C"
 stands = [1, 2, 3]
 "#;
 
-// Its bytes.
+// The bytes of that set-up.
 const BYTES: [u8; 63] = [
     0x00, 0x0a, 0x03, // 10 seats, 3 constituencies
     0x00, 0x00, 0x13, 0x88, 0x04, 0x4e, 0x6f, 0x72, 0x64, // 5,000 in Nord
@@ -90,8 +90,8 @@ fn a_set_up_is_read(rt: HostRuntime) -> Result<(), Fail> {
     see_seats(&rt, rt.alloc(), &setup)
 }
 
-/// Keeps a byte in the place of the one before, and then writes one that a stop takes away. Says whether the first write
-/// left the byte before where it was refused, and whether the byte is there after the stop.
+/// Stores a byte in the place of `before`, and then writes another byte, which a stop takes away. Returns whether the first
+/// write, if it was refused, left `before` in place, and whether the byte is there after the stop.
 fn is_kept(disk: &mut MemoryDisk, before: u8, byte: u8) -> Result<bool, DiskFault> {
     if disk.write_at(0, &[byte]).is_err() {
         if disk.image()[0] != before {

@@ -1,4 +1,4 @@
-//! Replies that no case has. How lines are read and answered are cases of `zh_cases`.
+//! Replies that no case has. Reading and answering lines is tested by the cases of `zh_cases`.
 
 use zh_commands::{Refusal, Reply, SheetRefusal, write_reply};
 

@@ -1,4 +1,4 @@
-//! The largest weights, and lines. Worked seats with their keys are cases of `zh_cases`: they stand on each sheet.
+//! The largest weights, and lines. Worked seats with their keys are in the cases of `zh_cases`, on each sheet.
 
 ghost use Rattle.std.specs.Prelude.{◌≤◌, ◌<◌, ◌^◌, All, Any, IsTrue, length};
 ghost use Rattle.zh_divisors.specs.Line.{IsMatrixLine};
@@ -8,7 +8,7 @@ use std::process::Abort;
 use std::test::Fail;
 use zh_divisors::{ShareFault, Shares, Weights, apportion, line};
 
-/// Whether these are weights, of which one at least is positive.
+/// Whether these are weights, at least one of which is positive.
 fn are_weights(numbers: &[u64]) -> bool
     ensures some { IsTrue result → 1 ≤ length numbers.now }
     ensures few { IsTrue result → length numbers.now ≤ 32 }
@@ -20,7 +20,7 @@ fn are_weights(numbers: &[u64]) -> bool
         && numbers.iter().any(|w| *w > 0)
 }
 
-/// The shares of weights that are within the limits.
+/// The shares of weights, which must be within the limits.
 fn shares_of(
     rt: &impl Abort,
     alloc: Global,
@@ -54,7 +54,7 @@ const ONE: u64 = 1_000_000;
 
 const LARGEST: u64 = 1_000_000_000_000_000_000;
 
-/// Whether these cells are a line, of which the first has votes.
+/// Whether these cells form a line, the first of which has votes.
 fn is_line(votes: &[u64], others: &[u64]) -> bool
     ensures { IsTrue result → IsMatrixLine votes.now others.now }
 {
@@ -65,13 +65,13 @@ fn is_line(votes: &[u64], others: &[u64]) -> bool
         && others.iter().all(|o| (1..=LARGEST).contains(o))
 }
 
-/// The divisor of cells that are a line, of which the first has votes.
+/// The divisor of cells that form a line, the first of which has votes.
 fn divisor_of(rt: &impl Abort, votes: &[u64], others: &[u64], target: u32, most: u64) -> u64 {
     assert!(rt; is_line(votes, others) && (1..=400).contains(&target) && most >= 1);
     line(votes, others, target, most)
 }
 
-// Votes, divisors of the lines that cross there, seats, the most that a divisor may be, and the divisor.
+// The votes, the divisors of the lines that cross there, the seats, the largest divisor allowed, and the expected divisor.
 const LINES: [(&[u64], &[u64], u32, u64, u64); 13] = [
     (&[525, 300, 175], &[ONE, ONE, ONE], 5, LARGEST, 205_000_000),
     (&[240, 330, 30], &[ONE, ONE, ONE], 3, LARGEST, 190_000_000),
@@ -82,7 +82,7 @@ const LINES: [(&[u64], &[u64], u32, u64, u64); 13] = [
     (&[300, 100], &[ONE, ONE], 1, LARGEST, 400 * ONE),
     (&[100, 300], &[200 * ONE, 400 * ONE], 1, LARGEST, 1_250_000),
     (&[100, 100], &[200 * ONE, 400 * ONE], 1, LARGEST, 750_000),
-    // the mean is taken of numbers that are not held yet
+    // the mean is taken before the bounds are applied
     (
         &[512_000_000_000, 300_000_000_000],
         &[ONE, ONE],
@@ -90,7 +90,7 @@ const LINES: [(&[u64], &[u64], u32, u64, u64); 13] = [
         LARGEST,
         812_000_000_000_000_000,
     ),
-    // and is held at 1, and at the most
+    // and is then bounded by 1 and by the largest divisor
     (&[1], &[LARGEST], 1, LARGEST, 1),
     (&[100_000_000_000_000], &[1], 1, LARGEST, LARGEST),
     (&[100, 100], &[ONE, ONE], 1, 7, 7),

@@ -1,4 +1,4 @@
-//! What is done in a folder in memory: each call passes or fails, and is noted.
+//! The calls of a folder in memory. Each passes or fails, and is noted if it failed.
 ghost use Rattle.std.specs.Prelude.{◌≡◌, ◌≢◌, ◌-◌, ◌++◌, ◌↔◌, ℕ, List, codes, string_bytes};
 ghost use Rattle.std.specs.Prelude.{None, Some, Err, IfErr, IfOk, IsErr, IsTrue, OnErr, OnOk};
 ghost use Rattle.std.specs.IoError.{error_kind};
@@ -25,7 +25,7 @@ use sqlite_std_file::OpenError;
 use std::io::{self, Cursor, ErrorKind, Read};
 
 impl<R> MemoryFolder<R> {
-    /// Counts a call down.
+    /// Counts a call down. Fails if no more calls pass.
     fn pass(&mut self) -> io::Result<()>
         ensures same { self.new ≡ record self.old { calls = self.new.calls } }
         ensures spent { self.new.calls ≡ self.old.calls - 1 }
@@ -41,7 +41,7 @@ impl<R> MemoryFolder<R> {
         }
     }
 
-    /// Notes whether a call at this path that is no lock failed.
+    /// Notes a call at this path, other than a lock, if it failed. Returns its result.
     fn note<T>(&mut self, path: &str, done: io::Result<T>) -> io::Result<T>
         ensures result { result ≡ done }
         ensures rest { self.new ≡ record self.old { failed = self.new.failed; notes = self.new.notes } }
@@ -105,7 +105,7 @@ impl<R> MemoryFolder<R> {
         Ok(self.place(path)?)
     }
 
-    /// The disk at this path and its companion, each made where nothing stands.
+    /// The disk at this path and its companion. Makes each of them if there is nothing at its path.
     fn both_at(&mut self, path: &str) -> io::Result<Files<MemoryFile>>
         ensures rest { self.new ≡ record self.old { placed = self.new.placed } }
         ensures made { MakesBoth path.now (folders_of self.old).places (folders_of self.new).places }
@@ -150,7 +150,7 @@ impl<R> MemoryFolder<R> {
         }
     }
 
-    /// Notes whether a lock at this path failed, or was refused.
+    /// Notes a lock at this path if it failed or was refused. Returns its result.
     fn note_lock<T>(&mut self, path: &str, done: Result<T, OpenError>) -> Result<T, OpenError>
         ensures result { result ≡ done }
         ensures rest { self.new

@@ -1,4 +1,4 @@
-//! The file of a disk, from its lock on until it is a disk.
+//! The file of a disk, from its lock until it becomes a disk.
 ghost use Rattle.std.specs.Prelude.{◌≡◌, ◌<◌, ◌∷◌, [], length, false, is_ok, IfOk, IsTrue, OnOk};
 ghost use Rattle.zh_file.specs.Locked.{kinds_after};
 ghost use Rattle.sqlite_disk.specs.Disk.{Cut, Holds, Only, Torn};
@@ -11,17 +11,17 @@ use std::io::{self, ErrorKind};
 use std::snapshot::Snapshot;
 use zh_film::Past;
 
-/// A file that is locked. It notes what it was before each of its calls, and which of them failed, which only clauses read. Nothing
-/// else reaches it: code over any folder can neither drop one nor take its file out.
+/// A locked file. It notes what it was before each of its calls, and which of them failed. Only clauses read these notes. Nothing
+/// else reaches the file: code that is generic over folders can neither drop a locked file nor take the file out.
 #[derive(Drop)]
 pub struct Locked<D: File> {
     file: D,
     before: Past<D>,
-    // the kinds of the errors of its calls
+    // the kinds of the errors of its failed calls
     failed: Past<ErrorKind>,
 }
 
-/// Notes a call of a file, where it failed.
+/// Notes a call of a file if it failed.
 fn note<T>(failed: &mut Past<ErrorKind>, done: &io::Result<T>)
     ensures { items failed.new ≡ kinds_after done.now (items failed.old) }
 {
@@ -34,7 +34,7 @@ impl<D: File> Locked<D> {
     ghost use Rattle.zh_file.specs.Locked.{IsNotedCall, Stays, moments};
     ghost use Rattle.zh_file.specs.Stored.{opening_moments, stored_history, is_over};
 
-    /// This file, as it is.
+    /// This file as it is, with no call noted.
     pub fn new(file: D) -> Locked<D>
         ensures file { result.file ≡ file }
         ensures begun { items result.before ≡ [] }
@@ -47,14 +47,14 @@ impl<D: File> Locked<D> {
         }
     }
 
-    /// Whether it may still be asked for anything: not after a sync that failed.
+    /// Whether the file can still be used. It can't after a failed sync.
     pub(crate) fn may_be_used(&self) -> bool
         ensures { result ≡ D.is_usable self.now.file }
     {
         self.file.may_be_used()
     }
 
-    /// Its length.
+    /// The length of the file.
     pub(crate) fn len(&mut self) -> io::Result<usize>
         requires { IsTrue (D.is_usable self.old.file) }
         ensures call { IsNotedCall D.Disk Stays result self.old self.new }
@@ -67,7 +67,7 @@ impl<D: File> Locked<D> {
         done
     }
 
-    /// Gives it this length.
+    /// Sets the length of the file.
     pub(crate) fn set_len(&mut self, n: usize) -> io::Result<()>
         requires { IsTrue (D.is_usable self.old.file) }
         ensures call { IsNotedCall D.Disk (Cut n) result self.old self.new }
@@ -93,7 +93,7 @@ impl<D: File> Locked<D> {
         done
     }
 
-    /// Syncs it.
+    /// Syncs the file.
     pub(crate) fn sync(&mut self) -> io::Result<()>
         requires { IsTrue (D.is_usable self.old.file) }
         ensures call { IsNotedCall D.Disk Stays result self.old self.new }
@@ -106,7 +106,7 @@ impl<D: File> Locked<D> {
         done
     }
 
-    /// The disk that it holds, as it was synced.
+    /// Makes the file, which is synced, a disk.
     pub(crate) fn start(self) -> Stored<D>
         requires usable { IsTrue (D.is_usable self.file) }
         requires synced { Only (D.seen self.file) (D.may_leave self.file) }

@@ -1,4 +1,4 @@
-//! From the slot in use to the other.
+//! The switch from the slot in use to the other slot.
 ghost use Rattle.std.specs.Prelude.{◌≡◌, ◌↔◌, ◌-◌, ◌^◌, true, false, length, OnOk, IsErrOf};
 ghost use Rattle.zh_disk.specs.History.{Call};
 ghost use Rattle.zh_snapshot.specs.Faults.{store_switch_fails};
@@ -12,7 +12,7 @@ use crate::refill::refill;
 use zh_disk::Disk;
 
 impl Store {
-    /// Writes a snapshot into the other slot, which is in use from then on: one generation later, and without records.
+    /// Writes a snapshot into the other slot, one generation later and without records. From then on that slot is in use.
     pub fn switch<D: Disk>(&mut self, disk: &mut D, payload: &[u8]) -> Result<(), SwitchFault>
         requires { length payload.now ≡ SNAPSHOT_LENGTH }
 

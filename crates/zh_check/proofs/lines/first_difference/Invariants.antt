@@ -2,7 +2,7 @@ use Rattle.std.proofs.Common.{◌≡◌, ◌+◌, ◌<◌, ◌≤◌, ℕ, lengt
 use Rattle.zh_check.specs.Lines.{after_lines, whole_line}
 use Rattle.zh_check.proofs.lines.first_difference.Given as goal
 
--- what is left of both texts, after lines that are the same
+-- the rest of all texts, after lines that are the same in two of them
 abbrev pub invariant-loop-others : goal.invariant-loop-others
 invariant-loop-others l = record {
   lines : l.lines ≡ after_lines l.before l.text;

@@ -2,7 +2,7 @@ use Rattle.std.proofs.Common.{◌≡◌, ◌<◌, ◌^◌, ℕ, List, ◌++◌, 
 use Rattle.zh_commands.specs.Words.{AreNumerals, numerals}
 use Rattle.zh_commands.proofs.parser.numbers.Given as goal
 
--- the numbers so far are read, and what is left is what any reading of the text leaves
+-- the numbers so far have been read, and what is left is the same as in any other reading of the text
 abbrev pub invariant-loop-number : goal.invariant-loop-number
 invariant-loop-number g l = record {
   sized : length l.number-items ≡ g.row.N;

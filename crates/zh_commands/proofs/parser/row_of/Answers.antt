@@ -13,7 +13,7 @@ returns-then-number-eq0 c row is e =
     let same = numerals_injective (row_numbers row) c.in_ok-municipality.field-0 is.0 found.1 (sym e ∙ found.2) in
     absurd (omega (arith, ap (λ (ns : List ℕ). get_or ns 2 0) same, is.1, c.if-number-eq0.true))
 
--- a list of four is its four numbers
+-- a list of length four consists of its four numbers
 four : (ns : List ℕ) → length ns ≡ 4 → ns ≡ get_or ns 0 0 ∷ get_or ns 1 0 ∷ get_or ns 2 0 ∷ get_or ns 3 0 ∷ []
 four (m ∷ l ∷ n ∷ v ∷ []) e = refl
 four ns e = absurd (omega (arith, e))

@@ -12,7 +12,7 @@ returns-then-number-eq0 c m l n is e =
     let same = numerals_injective (m ∷ l ∷ n ∷ []) c.in_ok-municipality.field-0 is.0 found.1 (sym e ∙ found.2) in
     absurd (omega (arith, ap (λ (ns : List ℕ). get_or ns 2 0) same, is.1, c.if-number-eq0.true))
 
--- a list of three is its three numbers
+-- a list of length three consists of its three numbers
 three : (ns : List ℕ) → length ns ≡ 3 → ns ≡ get_or ns 0 0 ∷ get_or ns 1 0 ∷ get_or ns 2 0 ∷ []
 three (m ∷ l ∷ n ∷ []) e = refl
 three ns e = absurd (omega (arith, e))

@@ -19,7 +19,7 @@ pub put_groups-requires-clause-names : goal.put_groups-requires-clause-names
 put_groups-requires-clause-names c =
     rw c.deref-3.ensures.value (short_names (λ x. x.name) (map group c.setup.inside.groups.items) c.setup.invariant.group_names)
 
--- what was put
+-- the bytes that were written
 the_bytes : (c : goal.In_ok-put_quorum) → c.put_quorum.new.out.items ≡ setup_spelling c.args.setup.now
 the_bytes c =
     let house = rw (c.new-out.ensures.items, c.to_be_bytes.ensures) at c.in_ok-extend_from_slice.ensures.items in

@@ -6,7 +6,7 @@ use Rattle.zh_divisors.proofs.LastSeatLemmas.{AreApart, IsStrictFit-apart, Round
 use Rattle.zh_divisors.proofs.OneFitLemmas.{no_strict_fit}
 use Rattle.zh_divisors.proofs.apportionment.apportion.Goals as goal
 
--- the weights and seats of the calls are those of the result
+-- the weights and seats in the calls are those of the result
 apart : (c : goal.After-new) → AreApart c.args.weights.now c.new.result.seats c.least_last-last.result c.most_next-next.result
 apart c = record { last_is = grind arith; next_is = grind arith; apart = grind arith }
 

@@ -2,7 +2,7 @@ use Rattle.std.proofs.Common.{◌≡◌, ℕ, ◌<◌, ◌≤◌, length, get_or
 use Rattle.zh_divisors.specs.Worth.{IsLeastLast}
 use Rattle.zh_divisors.proofs.apportionment.least_last.Given as goal
 
--- until somebody with a seat is met, `least` is 0
+-- `least` is 0 until a weight with a seat is found
 abbrev pub invariant-loop-i : goal.invariant-loop-i
 invariant-loop-i l =
     record {

@@ -12,7 +12,7 @@ use Rattle.zh_ledger.proofs.ReadyLemmas.{has_made_room}
 use Rattle.zh_ledger.proofs.SwitchLemmas.{makes_room, makes_no_room}
 use Rattle.zh_ledger.proofs.storage.make_room.Goals as goal
 
--- what was written to the front is there
+-- what was written is at the front
 in_front : (n : ℕ) (spelling rest out : List ℕ) → out ≡ spelling ++ rest → n ≡ length spelling → take n out ≡ spelling
 in_front n spelling rest out is len = ap (take n) is ∙ ap (λ k. take k (spelling ++ rest)) len ∙ take-append_seam spelling rest
 

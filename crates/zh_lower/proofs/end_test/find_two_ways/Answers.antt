@@ -4,7 +4,7 @@ use Rattle.zh_matrices.specs.Asked.{asked}
 use Rattle.zh_lower.proofs.BoundLemmas.{none-left, two-left}
 use Rattle.zh_lower.proofs.end_test.find_two_ways.Goals as goal
 
--- what a vector holds after its slice is written
+-- the content of a vector after its slice was written
 written_back : (n : ℕ) (xs ys : List ℕ) → length xs ≡ n → take n (xs ++ drop (length xs) ys) ≡ xs
 written_back n xs ys long = grind (arith, common_steps)
 

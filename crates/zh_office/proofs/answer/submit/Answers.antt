@@ -7,7 +7,7 @@ use Rattle.zh_office.specs.Requests.{answer_may_write, reply_to}
 use Rattle.zh_office.specs.declared.answer.Answer.TheVariants as answers
 use Rattle.zh_office.proofs.answer.submit.Goals as goal
 
--- an outcome and the reply that reports it may write alike
+-- an outcome may write exactly if the reply that reports it may
 may_write_alike : (outcome : Outcome) → may_write outcome ≡ answer_may_write (answers.Reply (reply_to outcome))
 may_write_alike (outcomes.Refused reason) = refl
 may_write_alike outcome = refl

@@ -7,7 +7,7 @@ use Rattle.zh_office.specs.Requests.{ReportsOutcome}
 use Rattle.zh_office.specs.declared.answer.Answer.{Answer}
 use Rattle.zh_office.proofs.answer.submit_rows.Goals as goal
 
--- what is reported of these rows is reported of the batch's
+-- a report on these rows is a report on the equal rows of the batch
 reported_of : (old new : OnDisk Ledger) (desk : ℕ) (rows batch : List Row) (answer : Answer) → rows ≡ batch
     → ReportsOutcome old (commands.Batch desk rows) answer new → ReportsOutcome old (commands.Batch desk batch) answer new
 reported_of old new desk rows batch answer same by = subst (λ (rows : List Row). ReportsOutcome old (commands.Batch desk rows) answer new) same by

@@ -6,7 +6,7 @@ use Rattle.zh_returns.specs.Rows.{IsBatch}
 use Rattle.zh_returns.proofs.RowBytesLemmas.{batch_spelling, rows_are}
 use Rattle.zh_returns.proofs.command_bytes.read_batch.Goals as goal
 
--- the number of rows in front is another
+-- the number of rows at the front is a different one
 refused : (c : goal.Then-len-read_u16) (rows : List Row) → IsBatch rows → batch_spelling rows ≡ c.args.bytes.now → ⊥
 refused c rows batch spelled =
     let behind = c.split_at.result.1.now in

@@ -5,7 +5,7 @@ use Rattle.byteorder.specs.Endian.{big_number}
 use Rattle.zh_returns.proofs.NumeralLemmas.{two_read, four_read}
 use Rattle.zh_returns.proofs.command_bytes.read_withdrawal.Goals as goal
 
--- seven bytes
+-- seven bytes, split into the fields of a withdrawal
 seven : (bytes : List ℕ) → length bytes ≡ 7 → take 2 bytes ++ (get_or bytes 2 0 ∷ take 4 (drop 3 bytes)) ≡ bytes
 seven (a ∷ b ∷ c ∷ d ∷ e ∷ f ∷ g ∷ []) whole = refl
 seven _ whole = absurd (omega arith)

@@ -3,7 +3,7 @@ use Rattle.std.specs.Int.{bytes_high_first}
 use borrow.Rule.Slice.PartMut.{put_mid}
 use Rattle.zh_returns.proofs.command_bytes.write_withdrawal.Goals as goal
 
--- three fields are written one after the other
+-- three fields are written one after another
 fields_written : (out : List ℕ) (m l n : ℕ) (first second : List ℕ) → length out ≡ 7 →
     first ≡ bytes_high_first 2 m ++ drop 2 out →
     second ≡ bytes_high_first 4 n ++ drop 4 (take (length (set first 2 l) - 3) (drop 3 (set first 2 l))) →

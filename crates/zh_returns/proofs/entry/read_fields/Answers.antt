@@ -16,7 +16,7 @@ number_read bytes at n room fit is =
     four_read (take 4 (drop at bytes)) n (omega (arith, length-take 4 (drop at bytes), length-drop at bytes))
     (first_fit 4 (drop at bytes) (λ i. omega (arith, get_or-drop at bytes i 0, fit (at + i)))) is
 
--- what begins with these bytes and goes on with those
+-- the first n bytes and the rest, joined again
 joined : (n : ℕ) (front back bytes : List ℕ) → front ≡ take n bytes → back ≡ drop n bytes → front ++ back ≡ bytes
 joined n front back bytes first rest =
     ap (λ (t : List ℕ). t ++ back) first ∙ ap (λ (t : List ℕ). take n bytes ++ t) rest ∙ take-append-drop n bytes

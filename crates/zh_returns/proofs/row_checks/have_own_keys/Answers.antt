@@ -34,7 +34,7 @@ loop-i-init c = record {
   distinct = tt;
 }
 
--- one row more
+-- one more row
 more : (bytes : List ℕ) (i : ℕ) (row : Row) → i < length bytes / 11 → get_or (rows_in bytes) i row ≡ row
     → map row_key (take (i + 1) (rows_in bytes)) ≡ map row_key (take i (rows_in bytes)) ++ (row_key row ∷ [])
 more bytes i row within here =

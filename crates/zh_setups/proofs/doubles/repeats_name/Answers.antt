@@ -26,7 +26,7 @@ any_more f g v more (d ∷ rest) =
     ∙ ap (λ b. b || (list_any (λ x. f (name_in x)) rest || list_any (same_name v) rest)) (or_comm (f (name_in d)) (same_name v d) ∙ sym (more (name_in d)))
     ∙ ap (λ b. g (name_in d) || b) (any_more f g v more rest)
 
--- a name that is new is seen from now on
+-- a new name is among the seen names from now on
 goes_on : (f g : List ℕ → Bool) (v : Data) (rest : List Data) → f (name_in v) ≡ false → ((q : List ℕ) → g q ≡ (bytes_eq (name_in v) q || f q)) →
     (list_any (λ d. f (name_in d)) (v ∷ rest) || repeats same_name (v ∷ rest)) ≡ (list_any (λ d. g (name_in d)) rest || repeats same_name rest)
 goes_on f g v rest fresh more =

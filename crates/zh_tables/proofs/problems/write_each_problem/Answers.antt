@@ -6,7 +6,7 @@ use Rattle.zh_record_text.proofs.CallerLemmas.{Puts-join}
 use Rattle.zh_tables.specs.Tables.{marked_rows}
 use Rattle.zh_tables.proofs.problems.write_each_problem.Goals as goal
 
--- under the name of the problem, by the marks of the set-up
+-- the rows under the name of the problem, with the marks of the set-up
 marked : {W : Type 0} (contents : W → Option (List ℕ)) (canton : Canton) (name text : List ℕ) (marks items : List Bool) (a b : Writer W) → name ≡ text → marks ≡ items
     → PutsText contents (marked_rows canton name marks) a b → PutsText contents (marked_rows canton text items) a b
 marked contents canton name text marks items a b named same puts =

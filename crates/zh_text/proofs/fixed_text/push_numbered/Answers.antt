@@ -2,7 +2,7 @@ use Rattle.std.proofs.Common.{◌≡◌, ◌++◌, decimal, length, ap, ◌∙�
 use Rattle.std.proofs.lemmas.Fmt.{length-decimal-le}
 use Rattle.zh_text.proofs.fixed_text.push_numbered.Goals as goal
 
--- a number of 32 bits has at most ten digits
+-- a 32-bit number has at most ten digits
 pub returns-clause-short : goal.returns-clause-short
 returns-clause-short g c =
     let digits = length-decimal-le 10 c.args.number (omega arith) (omega (arith, c.ranges.number.fits)) (omega (arith, c.ranges.number.fits)) in

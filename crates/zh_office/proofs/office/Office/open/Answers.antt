@@ -6,7 +6,7 @@ use Rattle.zh_ledger.specs.Opening.{Opening}
 use Rattle.zh_ledger.specs.declared.opening.OpenFault.TheVariants as faults
 use Rattle.zh_office.proofs.office.Office.open.Goals as goal
 
--- without memory no call of the disk is made
+-- if memory is refused, the disk is not called
 without_memory : (canton : Canton) (history : History) → Opening canton history history (Err faults.Memory)
 without_memory canton history = record {
   ready = tt;

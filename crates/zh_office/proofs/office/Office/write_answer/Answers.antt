@@ -4,7 +4,7 @@ use Rattle.zh_sheet_text.specs.SheetText.{sheet_text}
 use Rattle.zh_office.specs.Filmed.{WritesText}
 use Rattle.zh_office.proofs.office.Office.write_answer.Goals as goal
 
--- the sheet's text is written under the desk, with the commands that are accepted
+-- the sheet's text is written to the desk, with the number of accepted commands
 pub returns-in-Sheet : goal.returns-in-Sheet
 returns-in-Sheet g c =
     let accepted = c.accepted.ensures.accepted ∙ ap (λ (tally : Tally). tally.accepted) c.count.ensures in

@@ -9,11 +9,11 @@ use Rattle.zh_returns.specs.Batches.{AreKeyed}
 use Rattle.zh_returns.proofs.BatchRowLemmas.{not_found, keyed_more, batch_more, taken_by, on_no_error}
 use Rattle.zh_returns.proofs.batch.Batch.push.Goals as goal
 
--- no row of this key was held
+-- no row with this key was held
 fresh : (c : goal.Else-is_err) → has_key (values_of c.self.inside.rows.entries) (row_key c.args.row) ≡ false
 fresh c = ap (λ (rows : List Row). has_key rows (row_key c.args.row)) c.self.view_is ∙ (taken_by c.args.self.now c.args.row c.requires.taken).0
 
--- the row stands after the others
+-- the row comes after the others
 grown : (c : goal.Else-is_err) → c.insert-inserted.new.self.entries ≡ c.self.inside.rows.entries ++ (row_key c.args.row, c.args.row) ∷ []
 grown c =
     on_no_error c.insert-inserted.result _ (sym c.is_err.ensures.value ∙ c.if-is_err.false) c.insert-inserted.ensures.entries

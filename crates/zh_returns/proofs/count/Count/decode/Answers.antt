@@ -17,7 +17,7 @@ use Rattle.zh_returns.proofs.count.Count.decode.Goals as goal
 items_twice : {X Z : Type 0} (v : Vec X Z) (first second : List X) → length second ≡ v.len → (with_items (with_items v first) second).items ≡ second
 items_twice v first second len = with_items_is (with_items v first) second len
 
--- cleared tables stand for the empty count
+-- the count in cleared tables is empty
 stands_for : {Z : Type 0} (canton : Canton) (entries : Vec (Option Entry) Z) (closed : Vec Bool Z) (before table : List (Option Entry))
     (others flags : List Bool) → length table ≡ entries.len → length flags ≡ closed.len →
     All (λ (entry : Option Entry). entry ≡ None) table → All (λ (flag : Bool). flag ≡ false) flags →
@@ -66,7 +66,7 @@ read_tables-requires c = record {
   closed = ap length c.deref_mut-2.ensures.value ∙ c.self.invariant.flags;
 }
 
--- tables that were read stand for the count that they hold
+-- the count in tables that were read
 read_for : {Z : Type 0} (canton : Canton) (entries : Vec (Option Entry) Z) (closed : Vec Bool Z) (table : List (Option Entry))
     (flags : List Bool) (accepted : ℕ) → length table ≡ entries.len → length flags ≡ closed.len →
     tally_from canton (with_items entries table).items (with_items closed flags).items accepted ≡ tally_from canton table flags accepted

@@ -6,7 +6,7 @@ use Rattle.zh_returns.specs.Limits.{IsEntry}
 use Rattle.zh_returns.proofs.EntryTableLemmas.{read_key}
 use Rattle.zh_returns.proofs.count.Count.entry.Goals as goal
 
--- what was read is what the fields stand for
+-- what was read is what the count in the fields holds
 read_is : (c : goal.After-result-1) → c.index.result.now ≡ held (tally_of c.self.inside) c.args.municipality c.args.list
 read_is c =
     let within : c.args.list ≤ 32 = omega (arith, c.self.invariant.tally.canton.groups.1, ap (λ (t : Tally). length t.canton.groups) c.self.view_is) in

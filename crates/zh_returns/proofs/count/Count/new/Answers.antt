@@ -7,7 +7,7 @@ use Rattle.zh_returns.proofs.FlagLemmas.{closed_of-unset}
 use Rattle.zh_returns.proofs.LimitsLemmas.{IsTally-empty}
 use Rattle.zh_returns.proofs.count.Count.new.Goals as goal
 
--- tables without an entry and without a flag stand for the empty count
+-- the count in tables without an entry and without a flag is empty
 stands_for : (c : goal.In_ok-unset)
     → ◌≡◌ {A = Tally} (record {
       canton = c.args.setup.now;

@@ -16,7 +16,7 @@ use Rattle.zh_returns.proofs.rows.Rows.read.Goals.{then-bytes-count-via-else-byt
 use Rattle.zh_returns.proofs.rows.Rows.read.Goals.{then-not-are_numbered-via-then-not-are_numbered}
 use Rattle.zh_returns.proofs.rows.Rows.read.Goals.{then-not-are_numbered-via-else-not-are_numbered+then-not-have_own_keys}
 
--- the bytes are those of no number of rows from 1 to 1,000
+-- the bytes are not those of 1 to 1,000 rows
 pub returns-then-bytes-count : goal.returns-then-bytes-count
 returns-then-bytes-count c = record {
   read = tt;
@@ -29,7 +29,7 @@ returns-then-bytes-count c = record {
       ];
 }
 
--- a number is 0, or a key stands twice
+-- a replacement number is 0, or two rows have the same key
 pub returns-then-not-are_numbered : goal.returns-then-not-are_numbered
 returns-then-not-are_numbered c = record {
   read = tt;
@@ -53,7 +53,7 @@ are_batch c =
       are_rows = record { most = omega arith; speakable = c.are_numbered.ensures.0 c.if-not-are_numbered.false; keys = c.have_own_keys.ensures.0 c.if-not-have_own_keys.false };
     }
 
--- and of these rows
+-- the bytes are those of these rows
 spelled_so : (c : goal.Else-not-have_own_keys) → flat_map row_spelling (rows_in c.args.bytes.now) ≡ c.args.bytes.now
 spelled_so c =
     let n = length c.args.bytes.now / 11 in

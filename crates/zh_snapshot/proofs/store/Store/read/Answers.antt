@@ -18,11 +18,11 @@ use Rattle.zh_snapshot.proofs.FrameLemmas.{no_header, no_slot, no_journal, frame
 use Rattle.zh_snapshot.proofs.SlotLemmas.{held}
 use Rattle.zh_snapshot.proofs.store.Store.read.Goals as goal
 
--- what was found, named otherwise
+-- what was found is true of an equal value
 found_as : (found shown : Option InUse) (b : List ℕ) → found ≡ shown → IsFound found b → IsFound shown b
 found_as found shown b is here = subst (λ (o : Option InUse). IsFound o b) is here
 
--- a disk that fails, and one that is damaged
+-- what reading a store finds at a device fault, and on a damaged disk
 not_read : (b : List ℕ) → ReadsStore b (Err Device)
 not_read b = record { framed = tt; left = λ x j framed. tt; blank = λ is. absurd cc; damaged = λ is. absurd cc }
 
@@ -32,7 +32,7 @@ not_framed b damage = record { framed = tt; left = λ x j framed. tt; blank = λ
 err_same : (T : Type 0) (d e : OpenFault) → (let r : Result T OpenFault = Err d in r ≡ Err e) → d ≡ e
 err_same T d e is = cc
 
--- one whose head is not read
+-- what it finds if the head of the disk gives an error
 no_head : (b : List ℕ) (d : OpenFault) → FindsHeader b (Err d) → ReadsStore b (Err d)
 no_head b d header = record {
   framed = tt;
@@ -41,7 +41,7 @@ no_head b d header = record {
   damaged = λ is. let here : d ≡ Damaged = err_same _ d Damaged is in no_header b (header.damaged (ap Err here));
 }
 
--- one whose journal is not read
+-- what it finds if the journal gives an error
 no_area : (b : List ℕ) (e : area.OpenFault) (d : OpenFault) → AsStoreFault e d → (e ≡ of_area.Damaged → (IsBlank b → ⊥) × ((x : Content) (j : ℕ) → IsFramed x j b → ⊥)) → ReadsStore b (Err d)
 no_area b of_area.Device d is damage = subst (λ (z : OpenFault). ReadsStore b (Err z)) (sym is) (not_read b)
 no_area b of_area.Damaged d is damage = subst (λ (z : OpenFault). ReadsStore b (Err z)) (sym is) (not_framed b (damage refl))

@@ -5,7 +5,7 @@ use Rattle.zh_totals.specs.Totals.{VoteTotals, AreTotals, constituency_votes}
 use Rattle.zh_totals.proofs.TotalsLemmas.{constituency_most, constituency_at}
 use Rattle.zh_totals.proofs.totals.Totals.constituency.Goals as goal
 
--- the votes that are kept of the constituency
+-- the stored votes of the constituency
 is_kept : (c : goal.After-row_known-1) → c.index.result.now ≡ constituency_votes c.args.self.now c.args.constituency
 is_kept c =
     let d = c.args.constituency in
