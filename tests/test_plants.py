@@ -34,7 +34,6 @@ FIELDS = {"file", "seen by", "says", "changes nothing", "old", "new"}
 # How a test fails that sees a mistake: by what it compares, or by a file or an end that does not come. Other faults are its own.
 SEEN = re.compile(r"^FAILED .*? - (?:AssertionError|Failed|FileNotFoundError|PermissionError|BrokenPipeError|subprocess\.\w+): (.*)", re.M)
 LATE = re.compile(r"not after [\d.]+ seconds|.* timed out after [\d.]+ seconds")
-ATTEMPTS = 3
 Plant = Dict[str, str]
 
 
@@ -218,12 +217,7 @@ def test_mistake(part: Part, plant: Plant, tmp_path: Path, request: pytest.Fixtu
     put(plant, folder)
     if "seen by" not in plant:
         return
-    says = plant.get("says", "")
-    for _ in range(ATTEMPTS):  # on a busy machine a test can wait in vain; then it has shown nothing yet
-        said = part.fault(plant["seen by"], folder, tmp_path, request)
-        if not waited_in_vain(said, says):
-            break
-    judge(said, says)
+    judge(part.fault(plant["seen by"], folder, tmp_path, request), plant.get("says", ""))
 
 
 @pytest.mark.plants
