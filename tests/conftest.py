@@ -1,5 +1,6 @@
 """What all tests share. `pytest tests` runs them all, but for `rt ci` and what is slow; -k and -m choose some (docs/CONTRIBUTING.md)."""
 import compileall
+import importlib
 import os
 import pathlib
 import re
@@ -50,7 +51,10 @@ def pytest_collection_modifyitems(items):
 
 
 def pytest_terminal_summary(terminalreporter):
-    """Each test that is skipped is named, with its reason: none goes unsaid."""
+    """Each test that is skipped is named, with its reason: none goes unsaid. What was seen of all mistakes is kept."""
+    passed = {it.nodeid for it in terminalreporter.stats.get("passed", [])}
+    if any("test_plants.py::test_mistake" in it for it in passed):
+        importlib.import_module("test_plants").keep_sums(passed)
     skipped = terminalreporter.stats.get("skipped", [])
     terminalreporter.section(f"{len(skipped)} skipped")
     for it in skipped:

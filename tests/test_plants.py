@@ -10,8 +10,12 @@ tests/PART/plants/*.edits, one file for each script or part, with a blank line b
 
 The file is a path in desks, page/parts or crates/zh_file. If a mistake can't change anything that a person sees, it has 'changes
 nothing:' and the reason instead of 'seen by:' and 'says:', and no test is run for it. As a control, each test that a plant names must
-pass on a copy without a mistake."""
+pass on a copy without a mistake.
+
+A run that sees all mistakes of a part writes the sum of its files to tests/plants.passed. While the sum stays, `make test` tries
+IN_TURN of the part's mistakes, other ones after each commit; `make test` of other files tries all of them."""
 import glob
+import hashlib
 import importlib
 import os
 import re
@@ -28,7 +32,12 @@ import pytest
 
 import seals
 from edited.entries import entries_of
+from edited.tree import Tree
 from places import TOP
+
+PASSED = TOP / "tests/plants.passed"
+IN_TURN = 6
+UNREAD = {".md", ".pyc", "__pycache__", "out"}
 
 FIELDS = {"file", "seen by", "says", "changes nothing", "old", "new"}
 # How a test fails that sees a mistake: by what it compares, or by a file or an end that does not come. Other faults are its own.
@@ -56,6 +65,15 @@ class Part:
             assert not entries.keys() & found.keys(), f"{file} has a name that another file has"
             found.update(entries)
         return found
+
+    def files(self) -> List[Path]:
+        """What a mistake is seen by: the scripts, their tests, and what all tests share."""
+        folders = [(TOP / self.folder).parent if self.name == "page" else TOP / self.folder, TOP / "tests" / self.name]
+        found = [it for folder in folders for it in folder.rglob("*") if it.is_file() and not UNREAD & {it.suffix, *it.parts}]
+        return sorted([*found, Path(__file__), TOP / "tests/conftest.py"])
+
+    def sum(self) -> str:
+        return hashlib.sha256(repr([(str(it.relative_to(TOP)), it.read_bytes()) for it in self.files()]).encode()).hexdigest()[:32]
 
     def copied(self, room: Path) -> Path:
         """A copy of what the plants are about, and the folder in it whose files they change."""
@@ -175,9 +193,31 @@ PARTS = [
 ]
 
 
+def kept_sums() -> Dict[str, str]:
+    lines = PASSED.read_text().splitlines() if PASSED.is_file() else []
+    return dict(line.split() for line in lines)
+
+
 def mistakes() -> List:
-    found = [(part, name, plant) for part in PARTS for name, plant in part.plants().items()]
-    return [pytest.param(part, plant, id=f"{part.name}-{name}", marks=part.marks) for part, name, plant in found]
+    """All of them. Those of a part that is as it was when all were seen are slow, but for those in turn."""
+    found, kept, commits = [], kept_sums(), Tree(TOP).commits()
+    for part in PARTS:
+        plants, tried = part.plants(), kept.get(part.name) == part.sum()
+        turns = -(-len(plants) // IN_TURN)
+        for at, (name, plant) in enumerate(plants.items()):
+            marks = (*part.marks, pytest.mark.slow) if tried and (at - commits) % turns else part.marks
+            found.append(pytest.param(part, plant, id=f"{part.name}-{name}", marks=marks))
+    return found
+
+
+def keep_sums(passed: Set[str]) -> None:
+    """Writes the sum of each part of whose mistakes all are among the tests that passed."""
+    kept = kept_sums()
+    for part in PARTS:
+        if passed.issuperset(f"tests/test_plants.py::test_mistake[{part.name}-{it}]" for it in part.plants()):
+            kept[part.name] = part.sum()
+    if kept != kept_sums():
+        PASSED.write_text("".join(f"{name} {kept[name]}\n" for name in sorted(kept)))
 
 
 def controls() -> List:
@@ -245,3 +285,17 @@ def test_what_does_not_count(said: Optional[str], says: str, fault: str) -> None
 ])
 def test_what_counts(said: str, says: str) -> None:
     judge(said, says)
+
+
+def test_kept_sums(tmp_path: Path, monkeypatch: pytest.MonkeyPatch) -> None:
+    """a part's sum is kept once all its mistakes were seen; then some in turn are tried until a file changes"""
+    monkeypatch.setitem(globals(), "PASSED", tmp_path / "passed")
+    desks = next(it for it in PARTS if it.name == "desks")
+    names = {f"tests/test_plants.py::test_mistake[desks-{it}]" for it in desks.plants()}
+    keep_sums(set(sorted(names)[1:]))
+    assert kept_sums() == {}
+    keep_sums(names)
+    assert kept_sums() == {"desks": desks.sum()}
+    assert 0 < sum(it.id.startswith("desks-") and pytest.mark.slow not in it.marks for it in mistakes()) <= IN_TURN
+    monkeypatch.setattr(Part, "sum", lambda part: "another")
+    assert sum(it.id.startswith("desks-") and pytest.mark.slow not in it.marks for it in mistakes()) == len(names)
