@@ -54,8 +54,8 @@ def test_older_copy_of_the_disk(room):
 def test_used_disk(new_room):
     """a new folder with a disk that has commands is refused, unless it is said that it is meant; then the folder begins with that disk"""
     new_room.by_hand("return 1 1 1 525", "close 2")
-    new_room.refuses(f"{new_room.disk} has 2 commands, and {new_room.folder} no log of them: take a new disk, or, if it is meant, begin "
-                     "the log by --take")
+    new_room.refuses(f"{new_room.disk} has 2 commands, but {new_room.folder} has no log of them: take a new disk, or, if it is meant, "
+                     "begin the log by --take")
     that("nothing is noted of a start", not events(new_room.folder, "start", "loaded"))
     that("it is said", "the disk is taken with its 2 commands" in take(new_room))
     new_room.start()
