@@ -12,8 +12,8 @@ The file is a path in desks, page/parts or crates/zh_file. If a mistake can't ch
 nothing:' and the reason instead of 'seen by:' and 'says:', and no test is run for it. As a control, each test that a plant names must
 pass on a copy without a mistake.
 
-A run that sees all mistakes of a part writes the sum of its files to tests/plants.passed. While the sum stays, `make test` tries
-IN_TURN of the part's mistakes, other ones after each commit; `make test` of other files tries all of them."""
+A run that sees all mistakes of desks or of the page writes the sum of their files to tests/plants.passed. While the sum stays,
+`make test` tries IN_TURN of them, other ones after each commit; with another sum it tries all. Those of tests/real_file are slow."""
 import glob
 import hashlib
 import importlib
