@@ -1,6 +1,5 @@
-"""Tables as spreadsheets write them, CSV with commas or semicolons: returns, whose rows make a batch of a desk; and, for zhcount-office
---totals, the totals that the municipalities' own records state, `municipality,votes`, which grow during the night and may have other
-columns."""
+"""Tables as spreadsheets write them, CSV with commas or semicolons: returns, whose rows make a batch of a desk; and, for --totals, the
+totals that the municipalities' own records state, `municipality,votes`, which grow during the night and may have other columns."""
 import csv
 import io
 import os
@@ -84,8 +83,7 @@ def text_of(path: str) -> str:
 
 
 def totals_in(path: str, known: Container[str]) -> Tuple[Dict[str, int], List[str]]:
-    """The total of each municipality that has one, and what is wrong: with the file, or with a row, which is left out. A municipality
-    without votes is not known yet. `known` are the numbers of those that there are."""
+    """The totals by now of the municipalities `known`; and what is wrong: with the file, or with a row, which is left out."""
     totals: Dict[str, int] = {}
     remarks = []
     try:
@@ -109,8 +107,7 @@ def totals_in(path: str, known: Container[str]) -> Tuple[Dict[str, int], List[st
 
 
 def differing(path: str, status: str) -> Tuple[bytes, List[str]]:
-    """The municipalities whose returns are all in and add up to something else than is stated, and what is wrong there, as a table; and
-    what is wrong alone. `status` is the program's table of the municipalities."""
+    """A table of the municipalities whose returns are all in and do not add up to the stated total, and of all remarks; and these alone."""
     rows = list(csv.DictReader(io.StringIO(status, newline="")))
     totals, remarks = totals_in(path, {it["number"] for it in rows})
     table = io.StringIO()
