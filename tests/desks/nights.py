@@ -75,7 +75,7 @@ class Night(Room):
 
     def drop(self, desk, why):
         """Has the next start drop the batch of a desk, of which `run` refuses a row."""
-        del self.count.batches[desk]
+        del self.count.batches[str(desk)]
         self.dropped[str(desk)] = why
 
     def put(self):
@@ -94,7 +94,7 @@ class Night(Room):
         same(f"answers to {lines}", len(again) + len(lines), len(said))
         for line, answer in zip(lines, said[len(again):]):
             self.before_last = copy.deepcopy(self.count)
-            wanted = self.count.answer(int(line[0]), line[2:])
+            wanted = self.count.answer(line)
             if line[2:] not in ("sheet", "final"):  # whether there are seats is proved, and not in this model
                 same(f"the answer to {line}", wanted, answer)
         return said[len(again):]

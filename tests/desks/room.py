@@ -12,12 +12,12 @@ import subprocess
 import sys
 import tempfile
 
-from counting import Count, counted
+from counting import counted
 from logs import events
 from places import PROGRAM, REHEARSAL, TOP
 from processes import HAS_ENDED, SECONDS, Desk, Process, same, stand_still, stays, that, unread_by, until
 
-__all__ = ["HAS_ENDED", "MODES", "SCRIPTS", "SECONDS", "Count", "Desk", "Process", "Room", "let_in", "running", "same", "stand_still",
+__all__ = ["HAS_ENDED", "MODES", "SCRIPTS", "SECONDS", "Desk", "Process", "Room", "let_in", "running", "same", "stand_still",
            "stays", "that", "until"]
 SCRIPTS = pathlib.Path(os.environ.get("DESKS", TOP / "desks"))
 FORMATTED = []  # folders that go with the tests

@@ -8,9 +8,9 @@ import subprocess
 import canton as cantons
 import night
 import office as offices
-from now import CLOSINGS, NEVER, RETURNS, QuickRoom, compare_folder, model, published
+from now import CLOSINGS, RETURNS, QuickRoom, compare_folder, model, published
 from places import PROGRAM, TOP
-from processes import same, stays, that, until
+from processes import same, that, until
 from room import running
 
 ROOM = QuickRoom
@@ -190,14 +190,3 @@ def test_differs(new_room):
 
 def shows_differs(room, rows):
     until(lambda: f"it shows {rows}, and not {text_of(room, 'differs')}", lambda: text_of(room, "differs") == DIFFERS + rows)
-
-
-def test_totals_whatever_they_are():
-    """an office goes on whatever its file of totals is"""
-    with QuickRoom(every=NEVER) as room:
-        room.start("--totals", room.path)
-        same("the answers", ["stored 1"], room.ask(1, RETURNS[0]).out)
-        room.shows(0)
-        room.office.says(f"{room.path} can't be read: [Errno 21] Is a directory: '{room.path}'")
-        stays("it goes on", lambda: not room.office.has_ended())
-        room.stop()

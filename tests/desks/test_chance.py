@@ -14,6 +14,7 @@ import pytest
 
 from counting import Count, random_line
 from logs import events
+from now import command_of
 from quiet import QuietRoom, patient_scripts
 from room import HAS_ENDED, same, that, until
 
@@ -139,12 +140,6 @@ class Night:
             for it in work:
                 it.result()
         until(lambda: f"the office serves: {self.room.office.said()}", lambda: self.look_after_office() or self.room.serves())
-
-
-def command_of(pid):
-    with contextlib.suppress(OSError), open(f"/proc/{pid}/cmdline", "rb") as file:
-        return file.read()
-    return b""
 
 
 def check(night):

@@ -137,9 +137,8 @@ def lines_by_chance(night, chance):
     """Lines of four desks, which mostly make sense one after the other."""
     count, lines = copy.deepcopy(night.count), []
     for _ in range(chance.randint(1, 26)):
-        desk, line = chance.randint(1, 4), random_line(chance, count)
-        count.answer(desk, line)
-        lines.append(f"{desk} {line}")
+        lines.append(f"{chance.randint(1, 4)} {random_line(chance, count)}")
+        count.answer(lines[-1])
     return lines
 
 

@@ -113,7 +113,7 @@ def test_closing_that_another_decided(room):
     desk.wait()
     room.start()
     same("the other", ["stored 5", "none"], room.ask(2, "reopen 1", "show 3 1").out)
-    room.ask(1, "drop").says("before: close 1: stored 4")
+    room.ask(1, "drop").says("before: close 1: stored 4", "a batch is open; its rows: 2; 'commit' or 'drop' it")
     room.restart()
     same("the municipality stays open", ["stored 6"], room.ask(2, "return 1 1 2 530").out)
     room.check()
