@@ -8,7 +8,7 @@ import re
 from counting import Count
 from logs import Written, noted
 from places import PROGRAM, REHEARSAL, TOP
-from processes import same
+from processes import same, that
 from room import Room
 
 WHOLE = re.compile(r"(?:^\d sheet (?:provisional|final) \d+\n(?:.*\n)*?end|^.*)\n", re.M)
@@ -102,13 +102,9 @@ class Night(Room):
     # What comes by hand, while no office runs
 
     def load(self, *rows):
-        """A table. Its file."""
-        path = self.path / f"loaded{self.count.commands}.csv"
-        path.write_text("".join(f"{it}\n" for it in ["municipality,list,number,votes", *rows]))
-        same(f"the loading of {rows}", f"stored {self.count.commands + 1}\n", self.zhcount("load", "--csv", path))
+        same(f"the loading of {rows}", f"stored {self.count.commands + 1}\n", super().load(*rows))
         self.count.load(*(tuple(map(int, it.split(","))) for it in rows))
         self.is_by_hand = True
-        return path
 
     def type(self, *lines):
         """Lines that somebody types at the program itself. Batches of desks are no concern of theirs."""
@@ -132,7 +128,13 @@ class Night(Room):
         before = sorted(os.listdir(self.path))
         said = self.rebuild(status=1)
         same("the files beside", [it for it in before if it != self.new.name], sorted(os.listdir(self.path)))
+        that(f"it says so: {said}", said.startswith("not made: "))
         return said
+
+    def both_refuse(self, text):
+        """Replay and rebuild say this."""
+        for said in (self.replay(status=1), self.refused()):
+            that(f"{text}: {said}", text in said)
 
 
 def sum_of(data):

@@ -69,15 +69,6 @@ def size_of(call):
     return next(it.stat().st_size for it in pathlib.Path(f"/proc/{call.pid}/fd").iterdir() if os.readlink(it) == call.path)
 
 
-def test_programs_that_fail(written):
-    """where the program fails no disk is made, and it is said"""
-    for task in ("format", "export", "status"):
-        written.stands_in(f"[ $1 != {task} ] || {{ echo ill >&2; exit 1; }}")
-        that(f"{task} fails", f"not made: zhcount {task}: ill" in written.refused())
-    written.environment["ZHCOUNT"] = "/none"
-    that("one that is not there", "not made: /none can't be started" in written.refused())
-
-
 def test_volume_without_room(written):
     """a volume that takes no more leaves no disk, and no part of one"""
     words = written.script("zhcount-office", "--rebuild", written.folder, written.new)

@@ -66,13 +66,18 @@ def test_line_after_a_load_by_hand(room, kind):
     same("the export is that of the disk made anew", room.zhcount("export"), room.rebuilt())
 
 
-def test_stored_and_loaded(room):
-    """a line that was stored, after which others came by hand, is not given as though it were lost: the disk is noted, and it is `same`"""
-    desk = stopped(room, "return 1 1 2 530", True)
-    room.load("1,3,1,77")
+@pytest.mark.parametrize("is_stored, by_hand, answer, count", [
+    (True, lambda room: room.load("1,3,1,77"), "same", "2 commands"),
+    (False, lambda room: room.by_hand("return 1 1 2 531"), "refused conflict", "1 command"),
+], ids=["stored, and more loaded", "lost, and another one typed"])
+def test_not_the_lines_command(room, is_stored, by_hand, answer, count):
+    """a line that was stored, after which others came by hand, is not given as though it were lost; one command by hand whose effect is not
+    the line's is not taken for it: the disk is noted, and then the line is given"""
+    desk = stopped(room, "return 1 1 2 530", is_stored)
+    by_hand(room)
     room.start()
-    same("the answer", "same", desk.answer())
-    room.office.says("2 commands came in by hand before this start")
+    same("the answer", answer, desk.answer())
+    room.office.says(f"{count} came in by hand before this start")
     desk.end()
     room.stop()
     same("the export is that of the disk made anew", room.zhcount("export"), room.rebuilt())
@@ -94,16 +99,6 @@ def test_by_hand(room, lines):
     that(f"something has changed: {status}", status != wanted[1])
     same("the disk that is made anew", wanted[0], room.rebuilt())
     same("its status", wanted[1], room.zhcount("status", disk=room.path / "new.disk"))
-
-
-def test_same_contents_by_other_commands(room):
-    """one command more, by hand, whose effect is not the line's is not taken for the line's"""
-    desk = stopped(room, "return 1 1 2 530", False)
-    room.by_hand("return 1 1 2 531")
-    room.start()
-    same("the answer", "refused conflict", desk.answer())
-    room.office.says("1 command came in by hand before this start")
-    desk.end()
 
 
 def test_closing_that_another_decided(room):

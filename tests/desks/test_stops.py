@@ -5,7 +5,6 @@ made anew and the export have to agree, and each line has its one answer.
 
 `make test` takes of each kind of call the first and the last: at a start, among lines, at an end. `slow` takes all."""
 import concurrent.futures
-import copy
 import errno
 import functools
 import os
@@ -172,9 +171,9 @@ class Recorder:
         if is_own and call.name != "look" and not is_of_now(call):
             for image, what in zip(self.device.images(self.chance), ("names and bytes as synced", "bytes as synced", "a write is torn")):
                 title = f"a cut before {call.who}: {call.name} {call.path}, in line {night.done + 1}, {what}"
-                key = image, night.done, repr(night.typed)
+                key = image, night.done, repr(night.typed())
                 if key not in self.cuts:
-                    self.cuts[key] = title, copy.deepcopy(night.typed)
+                    self.cuts[key] = title, night.typed()
                     self.kinds.append((call.who, call.name, call.file, night.stage(), what))
         if call.name == "sync":
             self.device.sync(call.path)
