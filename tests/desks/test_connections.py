@@ -41,10 +41,8 @@ def test_another_log(room):
 def test_another_log_while_it_waits(room):
     """a desk that waits for an answer, or for a line, ends when its office has another log, and says what has no answer"""
     waits, is_idle = (room.desk(number).talk("show 1 1 -> none") for number in (3, 4))
-    run_process = room.unanswered(waits, "return 3 1 1 90")
+    room.stops_at(waits, "return 3 1 1 90")
     put_aside(room)
-    room.office.kill()
-    os.kill(run_process, signal.SIGKILL)
     room.start()
     for desk in (waits, is_idle):
         same("its end", 1, desk.wait())
@@ -59,9 +57,7 @@ def test_older_copy_of_the_log(room):
     room.stop()
     copied = (room.folder / "night.db").read_bytes()
     room.start()
-    run_process = room.unanswered(desk.talk("show 1 2 -> none"), "return 3 1 1 90")
-    room.stop(signal.SIGKILL)
-    os.kill(run_process, signal.SIGKILL)
+    room.stops_at(desk.talk("show 1 2 -> none"), "return 3 1 1 90")
     (room.folder / "night.db").write_bytes(copied)
     (room.folder / "night.db-wal").unlink()
     room.start()

@@ -118,20 +118,6 @@ def test_copy_of_another_disk(new_room):
 # The child
 
 
-def test_failing_child(new_room):
-    """of a child that fails the log says why, and the office goes on, and tries again"""
-    tries = new_room.path / "tries"
-    new_room.on_copies(f"[ -e '{new_room.held}' ] && {{ echo >> '{tries}'; echo 'zhcount: disk damaged' >&2; exit 1; }}")
-    new_room.held.write_text("")
-    new_room.start()
-    until("it is tried again", lambda: tries.exists() and len(tries.read_text()) >= 3)
-    same("the answer", ["stored 1"], new_room.ask(1, RETURNS[0]).out)
-    new_room.office.says("zhcount-office: `now` could not be renewed: zhcount status: zhcount: disk damaged")
-    new_room.held.unlink()
-    compare(new_room, RETURNS[:1])
-    new_room.stop()
-
-
 def test_killed_child(new_room):
     """of a child that is killed the log says so, and another one does its work"""
     new_room.start_held()

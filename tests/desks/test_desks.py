@@ -73,9 +73,7 @@ def test_sheet(room):
     whole = wanted[2:-1].encode()
     noted = f"sheet provisional 3 {len(whole)} {hashlib.sha256(whole).hexdigest()}"
     same("what is noted", [("sheet", noted)], room.of_desk(3))
-    run_process = room.unanswered(desk, "sheet")
-    room.stop(signal.SIGKILL)
-    os.kill(run_process, signal.SIGKILL)
+    room.stops_at(desk, "sheet")
     room.start()
     same("the sheet after a stop", wanted, desk.answer("sheet") + "\n")
     desk.end()
@@ -148,7 +146,7 @@ def test_stop_keeps_a_command(room):
 @pytest.mark.parametrize("is_stored", [True, False], ids=["outlived", "lost"])
 def test_told_what_became_of_it(room, is_stored):
     """a new connection is told what became of the last line, whatever another desk has done to the list meanwhile"""
-    (room.outlived if is_stored else room.lost)(room.desk(1), "return 1 1 1 525")
+    room.lost(room.desk(1), "return 1 1 1 525", is_stored)
     room.start()
     same("the other", ["stored 2"], room.ask(2, "return 1 1 2 530").out)
     desk = room.ask(1, "show 1 1")

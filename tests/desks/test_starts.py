@@ -1,8 +1,5 @@
 """What a start decides: what became of the line without an answer, and whether the disk is that of the log. Each case is made by stops at
 chosen moments, and by hand."""
-import os
-import signal
-
 import pytest
 
 from room import same, that, until
@@ -20,12 +17,7 @@ COMMANDS = ("return", "withdraw", "close", "reopen", "commit")
 
 def stopped(room, line, is_stored):
     """A night that ends by kill -9 of the office while a line has no answer, which the run got to store, or not. The desk stays."""
-    desk = room.desk(1).talk(*BEFORE)
-    run_process = room.unanswered(desk, line)
-    room.stop(signal.SIGKILL)
-    os.kill(run_process, signal.SIGCONT if is_stored else signal.SIGKILL)
-    until("the run has ended", lambda: not os.path.exists(f"/proc/{run_process}"))
-    return desk
+    return room.stops_at(room.desk(1).talk(*BEFORE), line, is_stored)
 
 
 def end(room, desk):
@@ -116,9 +108,7 @@ def test_closing_that_another_decided(room):
 
 def test_no_answer_before_the_start(room):
     """no desk is let in before the line without an answer has one"""
-    run_process = room.unanswered(room.desk(1), "return 1 1 1 525")
-    room.stop(signal.SIGKILL)
-    os.kill(run_process, signal.SIGKILL)
+    room.stops_at(room.desk(1), "return 1 1 1 525")
     flag = room.path / "flag"
     flag.touch()
     room.stands_in(f"[ $1 = run ] && while [ -e '{flag}' ]; do sleep 0.02; done")
