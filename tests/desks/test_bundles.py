@@ -77,7 +77,7 @@ def test_without_the_page(room):
 
 
 def test_child_that_fails(new_room):
-    """a copy that zhcount says something else of, or whose sheet can't be had, is not shown: the office says why, goes on and tries again"""
+    """a copy that zhcount says something else of, or whose sheet fails, is not shown: the office says why, goes on and tries again"""
     new_room.start()
     new_room.ask(1, *RETURNS)
     new_room.stop()
