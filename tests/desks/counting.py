@@ -10,6 +10,12 @@ FORMS = {"return": 4, "row": 4, "withdraw": 3, "show": 2, "last": 2, "close": 1,
          "final": 0}
 
 
+def rows_of(export):
+    """The entries in an export by their places, a withdrawn one without votes."""
+    rows = [it.split(",") for it in export.split("\n")[1:-1]]
+    return {(int(m), int(g)): (int(n), None if v == "withdrawn" else int(v)) for m, g, n, v in rows}
+
+
 class Rehearsal:
     """The rehearsal's canton: its constituencies are its municipalities."""
     constituency_of = [1, 2, 3]
@@ -70,8 +76,8 @@ class Count(Office):
 
     def become(self, commands, export, closed, **_):
         """What came by hand: the disk has so many commands, these rows, and these municipalities closed."""
-        before, rows = dict(self.held), [it.split(",") for it in export.split("\n")[1:-1]]
-        self.held.update({(int(m), int(g)): (int(n), None if v == "withdrawn" else int(v)) for m, g, n, v in rows})
+        before = dict(self.held)
+        self.held.update(rows_of(export))
         self.note_setters(0, before)
         self.commands, self.closed = commands, {int(it) for it in closed}
 
