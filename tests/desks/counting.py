@@ -1,6 +1,7 @@
 """What the office answers to whatever is typed, by docs/MANUAL.md: in the rehearsal's count, of three municipalities in each of which three
 lists stand, or in that of another canton."""
 import re
+import types
 
 from office import Office
 from processes import same
@@ -8,6 +9,8 @@ from processes import same
 NUMERAL = r"(0|[1-9]\d{0,9})"
 FORMS = {"return": 4, "row": 4, "withdraw": 3, "show": 2, "last": 2, "close": 1, "reopen": 1, "open": 0, "commit": 0, "drop": 0, "sheet": 0,
          "final": 0}
+# The canton of the rehearsal: its constituencies are its municipalities.
+REHEARSAL = types.SimpleNamespace(constituency_of=[1, 2, 3], municipalities=lambda: range(1, 4), lists_in=lambda _: range(1, 4))
 
 
 def rows_of(export):
@@ -16,24 +19,11 @@ def rows_of(export):
     return {(int(m), int(g)): (int(n), None if v == "withdrawn" else int(v)) for m, g, n, v in rows}
 
 
-class Rehearsal:
-    """The rehearsal's canton: its constituencies are its municipalities."""
-    constituency_of = [1, 2, 3]
-
-    @staticmethod
-    def municipalities():
-        return range(1, 4)
-
-    @staticmethod
-    def lists_in(_):
-        return range(1, 4)
-
-
 class Count(Office):
     """A count that is judged line by line, whatever is typed, and that knows which desk has entered a row. An office gives the rows of open
     batches again, so that they outlive a stop."""
 
-    def __init__(self, canton=Rehearsal):
+    def __init__(self, canton=REHEARSAL):
         super().__init__(canton)
         self.setters = {}
 
@@ -93,7 +83,7 @@ def random_line(chance, count):
     return " ".join([word, *map(str, [municipality, group, number, chance.randint(0, 3000)][:size])])
 
 
-def counted(found, canton=Rehearsal):
+def counted(found, canton=REHEARSAL):
     """What is held after the events of a log, each answer of which has to be that of the manual."""
     count, lines = Count(canton), {}
     for it in found:
