@@ -128,7 +128,7 @@ class Night(Room):
         before = sorted(os.listdir(self.path))
         said = self.rebuild(status=1)
         same("the files beside", [it for it in before if it != self.new.name], sorted(os.listdir(self.path)))
-        that(f"it says so: {said}", said.startswith("not made: "))
+        that(f"it says so: {said}", "not made: " in said)
         return said
 
     def both_refuse(self, text):
