@@ -19,7 +19,7 @@ from zhcount_names import Names
 from zhcount_program import Disk, Program, content, plain, put, room_in_memory
 from zhcount_state import State, rows_of
 from zhcount_stream import say
-from zhcount_tables import differing
+from zhcount_tables import differing, table_of
 
 EVERY = 10  # seconds from one copy to the next, at least
 LONGEST = 60  # seconds that a child may take
@@ -48,8 +48,17 @@ class Now:
             if path != self.shown:
                 shutil.rmtree(path, ignore_errors=True)
 
+    def note(self) -> None:
+        """Adds the lines that were answered since: after each answer, so that a copy has few to add, however long the log is."""
+        for event in self.log.events(self.state.number):
+            self.state.take(event)
+            if event.kind == "answer":
+                line = self.state.lines[event.desk]
+                self.writer.writerow([line.number, line.at, self.state.start, line.desk, line.turn, line.text, event.text, event.at])
+
     def take(self, line: Event, answer: str) -> None:
-        """Keeps a sheet that was shown, in place of the last one of its kind."""
+        """Notes an answer that was shown, and keeps a sheet in place of the last one of its kind."""
+        self.note()
         if SHEET.match(answer):
             kind = "sheet-final-" if answer.startswith("sheet final") else "sheet-"
             new = os.path.join(self.log.path, f"{kind}{self.log.state.commands}")
@@ -94,11 +103,7 @@ class Now:
         """Copies the disk and the lines, and starts the child."""
         self.at = time.monotonic()
         self.disk.check()
-        for event in self.log.events(self.state.number):
-            self.state.take(event)
-            if event.kind == "answer":
-                line = self.state.lines[event.desk]
-                self.writer.writerow([line.number, line.at, self.state.start, line.desk, line.turn, line.text, event.text, event.at])
+        self.note()
         path, numbers = self.last(), (self.state.commands, os.getpid(), self.priority)
         os.mkdir(path)
         os.chmod(path, 0o2750)
@@ -121,17 +126,13 @@ class Now:
 
 def unconfirmed(program: Program, held: bytes, lines: List[Dict[str, str]]) -> bytes:
     """The rows held that one desk alone has entered, or nobody at a desk, as a table: it follows from the lines and their answers."""
-    state, names, table = State(), Names(program), io.StringIO()
+    state, names = State(), Names(program)
     for it in lines:
         for kind in ("line", "answer"):
             state.take(Event(0, "", kind, int(it["desk"]), 0, it[kind]))
-    writer = csv.writer(table, lineterminator="\n")
-    table.write("municipality,list,number,votes,desk,municipality_name,list_name\n")
-    for place, row in rows_of(held.decode()).items():
-        desks = state.entered_by((place, row))
-        if len(desks) == 1:
-            writer.writerow([*place, *row, desks, names.municipalities[place[0]], names.groups[place[1]]])
-    return table.getvalue().encode()
+    rows = [[*place, *row, desks, names.municipalities[place[0]], names.groups[place[1]]] for place, row in rows_of(held.decode()).items()
+            if len(desks := state.entered_by((place, row))) == 1]
+    return table_of("municipality,list,number,votes,desk,municipality_name,list_name", rows)
 
 
 def seats_of(program: Program, line: str) -> Dict[str, bytes]:
@@ -158,8 +159,7 @@ def sheet_of(program: Program, line: str, commands: int) -> bytes:
 
 def published(program: Program, files: Dict[str, bytes], line: str, commands: int) -> Dict[str, bytes]:
     """The files of `publish`, by these of the copy: the tables, with a sheet if there are seats, the set-up and the page."""
-    found = {it: files[it] for it in TABLES if it in files}
-    found["setup.toml"] = content(program.setup)
+    found = {"setup.toml": content(program.setup), **{it: files[it] for it in TABLES if it in files}}
     if "no-seats" not in files:
         found["sheet.txt"] = sheet_of(program, line, commands)
     if PAGE:
@@ -176,8 +176,7 @@ def made(setup: str, folder: str, commands: int, totals: str) -> Dict[str, bytes
         raise Stopped(f"the copy has not the {commands} commands of the log: {plain(sums)}")
     with open(os.path.join(folder, "lines.csv"), encoding="utf-8", newline="") as file:
         lines = list(csv.DictReader(file))
-    is_final = any(it["answer"].startswith(f"sheet final {commands} ") for it in lines)  # a desk has had this sheet
-    line = "final" if is_final else "sheet"
+    line = "final" if any(it["answer"].startswith(f"sheet final {commands} ") for it in lines) else "sheet"  # as a desk has had it
     files = {"status": status, "sums": sums, "missing": program.done("status", "--missing")[0], "implausible": implausible,
              "held.csv": held, "unconfirmed": unconfirmed(program, held, lines),
              "votes.csv": program.done("votes")[0], "vote-groups.csv": program.done("votes", "--of", "groups")[0],
