@@ -45,9 +45,9 @@ def look(program: Program) -> Found:
         (status, sums), (export, _) = copy.done("status"), copy.done("export")
     try:
         commands = int(re.findall(r"(\d+) commands", sums.decode())[0])
-        closed = frozenset(it[0] for it in csv.reader(status.decode().split("\n")[1:-1]) if it[3] == "closed")
+        closed = frozenset(it["number"] for it in csv.DictReader(status.decode().split("\n")) if it["state"] == "closed")
         return Found(commands, rows_of(export.decode()), closed, export.decode(), image)
-    except (ValueError, IndexError):
+    except (ValueError, LookupError):
         raise Stopped(f"what zhcount says of {program.disk} can't be read") from None
 
 
