@@ -28,18 +28,18 @@ pub struct Paths<'a> {
 /// What the program is asked to do.
 #[derive(Clone, Copy)]
 pub enum Task<'a> {
-    /// Serve the rehearsal's set-up on a disk in memory.
+    /// Answer the lines of the input with the rehearsal's set-up, on a disk in memory.
     Rehearse,
-    /// Format a disk, so that nothing has been returned on it.
+    /// Format a disk that is blank or missing.
     Format(Paths<'a>),
-    /// Serve on a disk.
+    /// Answer the lines of the input and keep the count on a disk.
     Run(Paths<'a>),
     /// Load the returns of a CSV file as one batch.
     Load {
         paths: Paths<'a>,
         csv: &'a str,
     },
-    /// Report what a load of that file would do, and store nothing.
+    /// Report what a load of a CSV file would do, and store nothing.
     DryRun {
         paths: Paths<'a>,
         csv: &'a str,
@@ -53,7 +53,7 @@ pub enum Task<'a> {
     },
     /// Check a published sheet.
     Check(CheckPaths<'a>),
-    /// Write the seats of a published sheet.
+    /// Check a published sheet and write its seats.
     SheetSeats {
         setup: &'a str,
         sheet: &'a str,
@@ -63,14 +63,16 @@ pub enum Task<'a> {
     Version,
 }
 
-/// The path given after `--name`. A command that requires the path is not accepted without it.
+/// The value given after `--name`, a path or not, or an empty text if there is none. clap refuses a command that lacks a
+/// required value.
 pub(crate) fn path_in<'a>(given: &ArgMatches<'a>, name: &str) -> &'a str
     ensures { result.now ≡ path_in name.now (rows_of (found_of given.now)) }
 {
     given.get_str(name).unwrap_or("")
 }
 
-/// The given paths of a set-up and a disk. The command requires both.
+/// The given paths of a set-up and a disk. clap refuses a command that lacks a required one. `seats`, for which the disk is
+/// optional, calls this only if a disk was given.
 pub(crate) fn paths_in<'a>(given: &ArgMatches<'a>) -> Paths<'a>
     ensures { ArePaths (rows_of (found_of given.now)) result }
 {
@@ -80,7 +82,7 @@ pub(crate) fn paths_in<'a>(given: &ArgMatches<'a>) -> Paths<'a>
     }
 }
 
-/// The task that a command asks for. Without a command it is the rehearsal.
+/// The task that a command asks for, or how the command was misused. Without a command it is the rehearsal.
 fn task_for<'a>(command: Option<(&'a str, &ArgMatches<'a>)>) -> Result<Task<'a>, Misuse>
     ensures { MatchResult result
         (Names (option_map (λ given. (given.0.now, rows_of (found_of given.1.now))) command.entry))
@@ -148,14 +150,15 @@ pub fn read_arguments<'a>(alloc: Global, arguments: &'a [String]) -> Result<Task
 /// How a command that clap accepts was misused.
 #[derive(Clone, Copy)]
 pub(crate) enum Misuse {
-    /// `list` does not name a table.
+    /// The `--of` of `list` is not the name of a table. Or `--municipality` or `--constituency` is not a number below 2^32
+    /// (without a sign or a leading zero), is given for a table other than the returns, or is given together with the other.
     Table,
     /// `status` has more than one of its three flags.
     Flags,
-    /// `seats` does not name exactly one source, or has the flag `--final` with a sheet.
+    /// `seats` has both `--disk` and `--sheet`, neither of them, or `--final` with `--sheet`.
     Source,
-    /// `votes` does not name rows.
+    /// The `--of` of `votes` is neither `lists` nor `groups`.
     Votes,
-    /// `seats` does not name records.
+    /// The `--of` of `seats` is not `lists`, `groups` or `constituencies`.
     Layout,
 }

@@ -137,7 +137,7 @@ fn open_column(
     None
 }
 
-/// The first row without a way that can take one more seat in a column with a source. Returns the row, the column and the
+/// The first row that has no way yet but can take one more seat in a column with a source. Returns the row, the column and the
 /// source.
 fn next_row(
     bounds: &CellBounds<'_>,
@@ -166,7 +166,7 @@ fn next_row(
     None
 }
 
-/// Finds ways until a row that is short of a seat has one. Returns that row, or None if no row that is short of a seat can get
+/// Finds ways until a row that is short of a seat has one. Returns that row, or `None` if no row that is short of a seat can get
 /// a way.
 pub(crate) fn reach(
     bounds: &CellBounds<'_>,

@@ -12,7 +12,7 @@ use crate::cells::{CellBounds, copy_cells};
 use crate::completion::{complete, fill_cells};
 use zh_matrices::{Question, column_sum, row_sum};
 
-/// Whether no cell is above its upper bound.
+/// Whether no cell has more seats than its upper bound.
 fn are_at_most(bounds: &CellBounds<'_>, seats: &[u32]) -> bool
     requires { length seats.now ≡ bounds.now.question.now.rows * bounds.now.question.now.columns }
     ensures { IsTrue result ↔ AreAtMost (asked_in bounds.now) bounds.now.most.now seats.now }
@@ -51,7 +51,7 @@ fn have_columns_room(question: &Question<'_>, seats: &[u32]) -> bool
     true
 }
 
-/// Gives each cell its lower bound. False if these exceed the upper bound of a cell or the total of a line.
+/// Gives each cell its lower bound. False if the lower bounds exceed the upper bound of a cell or the total of a line.
 fn place_least(bounds: &CellBounds<'_>, seats: &mut [u32]) -> bool
     requires { length seats.old ≡ bounds.now.question.now.rows * bounds.now.question.now.columns }
     ensures placed { OnTrue result (words.ArePlaced (asked_in bounds.now) (bounds_of bounds.now) seats.new) }

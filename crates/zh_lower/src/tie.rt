@@ -1,4 +1,4 @@
-//! A tie: the divisors from which two matrices follow, and the seats that the lot decides.
+//! A tie: the divisors from which two different matrices follow weakly, and the seats that the lot decides.
 ghost use Rattle.std.specs.Bool.{OnFalse, OnTrue};
 ghost use Rattle.std.specs.Prelude.{◌≡◌, ℕ, ◌*◌, ◌<◌, IfOk, length, slice_index, min};
 ghost use Rattle.zh_decided.specs.Bounds.{IsAnotherAt, IsFixedAt, IsWithin, asked_in, bounds_of};
@@ -15,7 +15,7 @@ use std::alloc::{AllocError, Global};
 use zh_decided::{CellBounds, differ_at};
 use zh_matrices::Question;
 
-/// A tie that the search reached: its divisors, and one of the matrices that follow from them.
+/// A tie that the search reached: its divisors, and one of the matrices that follow weakly from them.
 #[derive(Drop)]
 pub struct Tie {
     /// The row and the column of the first quotient on a half, counted from 1.
@@ -32,7 +32,7 @@ pub struct Ranges {
     pub most: Vec<u32>,
 }
 
-/// Whether some matrix within the bounds has a different number of seats in a cell.
+/// Whether some matrix within the bounds has a different number of seats in a cell. If so, one is written to `others`.
 fn may_change(bounds: &CellBounds<'_>, seats: &[u32], place: usize, others: &mut [u32]) -> bool
     requires within { IsWithin (asked_in bounds.now) (bounds_of bounds.now) seats.now }
     requires place { place < bounds.now.question.now.rows * bounds.now.question.now.columns }
@@ -43,7 +43,8 @@ fn may_change(bounds: &CellBounds<'_>, seats: &[u32], place: usize, others: &mut
     bounds.least[place] < bounds.most[place] && differ_at(bounds, seats, place, others)
 }
 
-/// The fewest and the most seats of a cell: its two bounds, or the one number that all matrices have there.
+/// The fewest and the most seats of a cell over all matrices that may be drawn: its two bounds, or the one number that all of
+/// them have there. Overwrites `others`.
 fn range_at(bounds: &CellBounds<'_>, seats: &[u32], place: usize, others: &mut [u32]) -> (u32, u32)
     requires enclose { EncloseDraws (asked_in bounds.now) (bounds_of bounds.now) }
     requires within { IsWithin (asked_in bounds.now) (bounds_of bounds.now) seats.now }
@@ -100,7 +101,7 @@ pub fn lot(alloc: Global, question: &Question<'_>, tie: &Tie) -> Result<Ranges, 
     Ok(ranges)
 }
 
-/// A quotient as a number of seats, capped at 401, which is more than a row gets.
+/// A quotient as a number of seats, capped at 401, which is more than any row gets.
 fn bounded(quotient: u128) -> u32
     ensures { result ≡ min 401 quotient }
 {

@@ -1,4 +1,4 @@
-//! Names as replies and reports spell them.
+//! The names of refusals and faults, as replies and reports spell them.
 
 ghost use Rattle.std.specs.Prelude.{◌≡◌, ◌+◌, ◌≤◌, ◌++◌, length};
 ghost use Rattle.zh_text.specs.Names.{HasShortWords, name_text};
@@ -7,7 +7,7 @@ use crate::fixed_text::{push, push_numbered};
 use arrayvec::ArrayVec;
 use std::fmt;
 
-/// A name as replies and reports spell it: words, then up to two numbers, each after a space.
+/// The name of a refusal or a fault: words, then up to two numbers, each after a space.
 #[derive(Clone, Copy)]
 pub enum Name {
     Words(&'static str),
@@ -30,7 +30,7 @@ impl fmt::Display for Name {
     }
 }
 
-/// Appends a name, which has at most 36 bytes.
+/// Appends a name, whose words must have at most 14 bytes: at most 36 bytes in all.
 pub fn push_name<const N: usize>(text: &mut ArrayVec<u8, N>, name: Name)
     requires words { HasShortWords name }
     requires room { length text.old.items + 46 ≤ N }

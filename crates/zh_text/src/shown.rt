@@ -7,14 +7,15 @@ ghost use Rattle.zh_text.specs.declared.shown.ShownNames.TheVariants as names;
 use crate::signs::{Sign, sign_at};
 use std::alloc::AllocError;
 
-/// Which bytes are shown by a name, such as `<CR>`. All other control characters become question marks.
+/// Whether a byte order mark and a CR are shown by name. Without a name they become question marks, as all other control
+/// characters do.
 #[derive(Clone, Copy, Debug, PartialEq, Eq)]
 pub enum ShownNames {
-    /// Nothing.
+    /// Neither.
     None,
-    /// A byte order mark, as `<BOM>`.
+    /// Only a byte order mark, as `<BOM>`.
     Mark,
-    /// A byte order mark as `<BOM>` and a CR as `<CR>`, since a copied text can have a CR at the end of each line.
+    /// A byte order mark as `<BOM>` and a CR as `<CR>`, because a copied text can have a CR at the end of each line.
     MarkAndReturn,
 }
 
@@ -58,7 +59,8 @@ fn byte_shown(named: ShownNames, byte: &[u8]) -> &[u8]
     }
 }
 
-/// How the byte at this place of a text is shown. A byte order mark or a two-byte control character is shown at its first byte.
+/// How the byte at this place of a text is shown. A byte order mark or a two-byte control character is shown at its first byte,
+/// and its later bytes give nothing.
 pub fn shown_at(named: ShownNames, text: &[u8], place: usize) -> &[u8]
     requires { place < length text.now }
     ensures shown { result.now ≡ shown_at named text.now (place + 1) }
@@ -73,7 +75,7 @@ pub fn shown_at(named: ShownNames, text: &[u8], place: usize) -> &[u8]
     }
 }
 
-/// Appends a text in the form in which it is shown.
+/// Appends a text as it is shown, byte by byte (`shown_at`).
 pub fn push_shown(text: &mut Vec<u8>, named: ShownNames, shown: &[u8]) -> Result<(), AllocError>
     ensures { OnOk result (text.new.items ≡ text.old.items ++ shown_text named shown.now) }
 {
