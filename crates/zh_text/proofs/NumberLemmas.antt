@@ -21,7 +21,7 @@ pub is_put : {T E P : Type 0} (result : Result T E) → IsOk result → OnOk res
 is_put (Ok done) is there = there
 is_put (Err fault) is there = absurd (cc is)
 
--- the zeros written are as many as the number lacks digits
+-- one zero is written for each digit that the number lacks
 pub zeros_put : (none zeros written : List ℕ) (digits number : ℕ) → digits ≤ 6 → none ≡ [] → written ≡ decimal number
     → zeros ≡ none ++ take (digits - length written) six_zeros → zeros ≡ replicate (digits - length (decimal number)) 48
 zeros_put none zeros written digits number few empty are put =

@@ -1,4 +1,4 @@
--- Names as replies and reports spell them. 32 is the space.
+-- The names of refusals and faults, as replies and reports spell them. 32 is the space.
 use Rattle.std.specs.Prelude.{◌≡◌, ◌≤◌, ℕ, List, ◌∷◌, ◌++◌, length, decimal}
 use Rattle.zh_text.specs.declared.name.Name.{Name}
 use Rattle.zh_text.specs.declared.name.Name.TheVariants.{Words, Number, Pair}

@@ -18,7 +18,7 @@ return_shown names.None = codes "?"
 return_shown names.Mark = codes "?"
 return_shown names.MarkAndReturn = codes "<CR>"
 
--- how a single byte is shown: 13 is CR; any other control character (below 32, or 127) is a question mark
+-- how a single byte is shown: 13 is CR; any other control character (below 32, or 127) is shown as a question mark
 abbrev pub byte_shown : ShownNames → ℕ → List ℕ
 byte_shown named byte =
     if byte == 13 then return_shown named else (if nat_lt byte 32 || (byte == 127) then codes "?" else byte ∷ [])

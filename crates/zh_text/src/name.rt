@@ -1,4 +1,4 @@
-//! Names as replies and reports spell them.
+//! The names of refusals and faults, as replies and reports spell them.
 
 ghost use Rattle.std.specs.Prelude.{◌≡◌, ◌+◌, ◌≤◌, ◌++◌, length};
 ghost use Rattle.zh_text.specs.Names.{HasShortWords, name_text};
@@ -7,7 +7,7 @@ use crate::fixed_text::{push, push_numbered};
 use arrayvec::ArrayVec;
 use std::fmt;
 
-/// A name as replies and reports spell it: words, then up to two numbers, each after a space.
+/// The name of a refusal or a fault: words, then up to two numbers, each after a space.
 #[derive(Clone, Copy)]
 pub enum Name {
     Words(&'static str),

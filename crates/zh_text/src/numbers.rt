@@ -36,7 +36,7 @@ pub fn padded(number: u32, digits: usize) -> Padded
     text
 }
 
-/// The text of a number with decimal places.
+/// The text of a number with six decimal places.
 pub type DecimalText = ArrayVec<u8, 47>;
 
 /// A number given in millionths, in decimal with six decimal places.
@@ -57,7 +57,7 @@ fn is_plain(word: &[u8]) -> bool
     word.len() <= 1 || matches!(word[0], b'1'..=b'9')
 }
 
-/// The 32-bit number that the word spells in decimal, without a sign or leading zeros. `None` if it spells none.
+/// The 32-bit number that a word spells in decimal, without a sign or leading zeros. `None` if it spells no such number.
 pub fn numeral(word: &[u8]) -> Option<u32>
     ensures { MatchOption result ((n : ℕ) → n < 2 ^ 32 → word.now ≢ decimal n)
         (λ n. (n < 2 ^ 32) × (word.now ≡ decimal n)) }

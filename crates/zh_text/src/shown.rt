@@ -7,14 +7,15 @@ ghost use Rattle.zh_text.specs.declared.shown.ShownNames.TheVariants as names;
 use crate::signs::{Sign, sign_at};
 use std::alloc::AllocError;
 
-/// Which bytes are shown by a name, such as `<CR>`. All other control characters become question marks.
+/// Whether a byte order mark and a CR are shown by name. Without a name they become question marks, as all other control
+/// characters do.
 #[derive(Clone, Copy, Debug, PartialEq, Eq)]
 pub enum ShownNames {
-    /// Nothing.
+    /// Neither.
     None,
-    /// A byte order mark, as `<BOM>`.
+    /// Only a byte order mark, as `<BOM>`.
     Mark,
-    /// A byte order mark as `<BOM>` and a CR as `<CR>`, since a copied text can have a CR at the end of each line.
+    /// A byte order mark as `<BOM>` and a CR as `<CR>`, because a copied text can have a CR at the end of each line.
     MarkAndReturn,
 }
 
