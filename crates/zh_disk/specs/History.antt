@@ -3,7 +3,7 @@ use Rattle.std.specs.Prelude.{◌≡◌, ◌<◌, ◌≤◌, ◌+◌, ◌-◌, �
 use Rattle.zh_disk.specs.declared.disk.DiskFault.{DiskFault}
 use Rattle.zh_disk.specs.Disk.{Trail}
 
--- whether no answer so far contradicts the trail, the failure count, and the trail
+-- whether the disk is honest (no answer so far contradicts the trail), its failure count, and its trail
 pub record History : Type 0 where
   pub honest : Bool
   pub failures : ℕ

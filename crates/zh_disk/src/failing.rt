@@ -7,7 +7,7 @@ ghost use Rattle.zh_disk.specs.declared.disk.TheConstants.{DISK_LENGTH};
 
 use crate::disk::{DISK_LENGTH, Disk, DiskFault};
 
-/// How many calls still pass after one more call; `None` once a call has failed.
+/// How many calls still pass after one more call. `None` once the first call that fails by design has come.
 fn one_fewer(left: Option<u64>) -> Option<u64>
     ensures { result ≡ one_fewer left }
 {
@@ -18,9 +18,9 @@ fn one_fewer(left: Option<u64>) -> Option<u64>
 #[derive(Drop)]
 pub struct FailingDisk<D: Disk + Drop> {
     inner: D,
-    // how many calls still pass; `None` once a call has failed
+    // how many calls still pass; `None` once the first call that fails by design has come
     left: Option<u64>,
-    // whether only one call fails
+    // whether only one call fails by design
     fails_once: bool,
     failures: u64,
 }
