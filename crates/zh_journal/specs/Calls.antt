@@ -46,7 +46,7 @@ pub record FindsArea (base : ℕ) (bytes : List ℕ) (answer : Result (Place × 
   -- the reader has all of these records left
   pub left : (rs : List (List ℕ)) (j : ℕ) → ReadsRecords base bytes rs j
       → IfOk answer (λ opened. Frames 0 opened.1.pages opened.1.page rs opened.1.end)
-  -- `Damaged` is returned only if the rules give no records; by `records`, `Ok` is returned only if they do
+  -- `Damaged` is returned only if a head breaks a rule; by `records`, `Ok` is returned only if none does
   pub damaged : IsErrOf answer Damaged → records_of base bytes ≡ None
 
 -- the trail is n moments longer

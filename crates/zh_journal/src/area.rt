@@ -20,8 +20,8 @@ use zh_disk::Disk;
 
 /// The records of one area of a disk: where the area begins, the page at which its records end, and how many there are.
 ///
-/// The disk is passed to each call and must be the one on which the area was opened. After a device fault, open the
-/// area again.
+/// A call that uses the disk takes it as an argument, which must be the disk on which the area was opened. After a device
+/// fault, open the area again.
 #[derive(Drop)]
 pub struct Area {
     base: u64,
@@ -84,9 +84,9 @@ impl Area {
         AREA_PAGES - self.end
     }
 
-    /// Reads the payload of record `i`, counted from 0, into the caller's buffer and returns that part of it. Finds it by
-    /// reading the heads of the records before it. (To go through all records, use the reader that `open` returns.) If the
-    /// disk no longer has this record, the payload returned is empty, which no record's payload is.
+    /// Reads the payload of record `i`, counted from 0, into the caller's buffer and returns that part of the buffer. Finds
+    /// the record by reading the heads of those before it. (To go through all records, use the reader that `open` returns.)
+    /// If the disk no longer has this record, the slice is empty; no record has an empty payload.
     pub fn record<'b, D: Disk>(
         &self,
         disk: &mut D,
@@ -135,7 +135,7 @@ impl Area {
     }
 
     /// Writes zeros over the area that begins at this place and returns the area without records. Until the caller has
-    /// synced, the disk can hold anything there, so an outer gate must stay closed until then.
+    /// synced, the disk can hold anything there, so a gate in front of the area must stay closed until then.
     pub fn clear<D: Disk>(disk: &mut D, base: u64, zeros: &[u8]) -> Result<Area, AreaFault>
         requires base { base + AREA_LENGTH ≤ DISK_LENGTH }
         requires size { length zeros.now ≡ AREA_LENGTH }
@@ -160,7 +160,7 @@ pub(crate) struct Extent {
     pub(crate) count: u32,
 }
 
-/// Where the records in these pages end, and how many there are. `None` if a page is damaged.
+/// Where the records in these pages end, and how many there are. `None` if a first page is damaged.
 pub(crate) fn extent_of(pages: &[u8]) -> Option<Extent>
     requires { length pages.now ≡ AREA_LENGTH }
 

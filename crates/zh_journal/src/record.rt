@@ -65,7 +65,7 @@ fn read_page<D: Disk>(
     )
 }
 
-/// Reads the payload of the record at this place, which has the length `len` by its head.
+/// Reads the payload of the record at this place, which has the length `len` according to its head.
 fn read_payload<D: Disk>(
     disk: &mut D,
     at: u64,
@@ -110,8 +110,8 @@ pub(crate) fn read_record<D: Disk>(
     Ok(len)
 }
 
-/// The page at which record `i` of the area at this base begins, found by reading the heads of the records before
-/// it. If one of these is not the head of a record, `AREA_PAGES`.
+/// The page after the first `i` records of the area at this base, which is where record `i` begins if there is one.
+/// It is found by reading the heads of these records. `AREA_PAGES` if there are fewer of them.
 pub(crate) fn find_page<D: Disk>(disk: &mut D, base: u64, i: u32) -> Result<u32, DiskFault>
     requires { base + AREA_LENGTH ≤ DISK_LENGTH }
 
