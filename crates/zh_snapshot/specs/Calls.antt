@@ -37,7 +37,7 @@ pub record ReadsStore (bytes : List ℕ) (answer : Result (State × Rest) OpenFa
   -- `Damaged` is returned only if the disk's gate is open and the bytes have no content
   pub damaged : IsErrOf answer Damaged → (IsBlank bytes → ⊥) × ((x : Content) (j : ℕ) → IsFramed x j bytes → ⊥)
 
--- The same, and the content of these bytes as a function gives it: a blank or damaged disk has no content.
+-- The same, and the content of these bytes as the function `content_of` gives it: a blank or damaged disk has no content.
 pub record FindsStore (bytes : List ℕ) (answer : Result (State × Rest) OpenFault) : Type 0 where
   pub read : ReadsStore bytes answer
   pub content : IfOk answer (λ opened. (x : Content) × (content_of bytes ≡ Some x) × (length x.records ≡ opened.0.area.count))

@@ -1,4 +1,4 @@
--- Which answers report a device fault, and what a fault at opening an area becomes for the store.
+-- Which answers report a device fault, and what an error of opening an area becomes for the store.
 use Rattle.std.specs.Prelude.{◌≡◌, Bool, true, false, Result, Ok, Err}
 use Rattle.zh_journal.specs.declared.fault.OpenFault as area
 use Rattle.zh_journal.specs.declared.fault.OpenFault.TheVariants as of_area

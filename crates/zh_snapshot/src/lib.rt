@@ -1,4 +1,4 @@
-//! A snapshot and the records since, in a slot of a disk, with the set-up bytes beside them.
+//! The set-up bytes of a disk and, in one of its slots, a snapshot and the records after it.
 //!
 //! docs/FORMATS.md describes the layout of the disk, and which disk calls each call here makes.
 #![tactic(auto)]

@@ -1,4 +1,4 @@
-//! Rewriting the shadow slot: its gate, the commit byte, is closed first and opened last.
+//! Rewriting a shadow slot: its gate, the commit byte, is closed first and opened last.
 ghost use Rattle.std.specs.Prelude.{◌≡◌, ℕ, length, slice_index, IfOk, is_err};
 ghost use Rattle.zh_disk.specs.Disk.{Changes, Lands};
 ghost use Rattle.zh_disk.specs.History.{Call};
@@ -44,7 +44,7 @@ fn fill_slot<D: Disk>(
     Area::clear(disk, slot.journal(), zeros)
 }
 
-/// Rewrites a slot while its gate is closed, and opens the gate at the end. `is_open` says whether it is open before.
+/// Closes a slot's gate if `is_open` says that it is open, rewrites the slot, and opens the gate at the end.
 pub(crate) fn refill<D: Disk>(
     disk: &mut D,
     slot: Slot,

@@ -25,8 +25,8 @@ mod switch;
 
 /// What is known of a disk: the slot in use with its generation, where its records end, and the length of the set-up bytes.
 ///
-/// The disk is passed to each call and must be the one on which the store was opened. After a device fault in a call that
-/// writes, the store is broken and must be opened again.
+/// A call that uses the disk takes it as an argument, which must be the disk on which the store was opened. After a device
+/// fault in a call that writes, the store is broken and must be opened again.
 #[derive(Drop)]
 pub struct Store {
     setup_length: u32,
@@ -63,8 +63,8 @@ impl Model for Store {
 }
 
 impl Store {
-    /// Opens the store on a disk. Returns it with a reader, which goes through its records in order. Takes memory, then syncs
-    /// the disk, and after that only reads. The journal is read once.
+    /// Opens the store on a disk. Returns it with a reader, which goes through its records in order. Allocates memory, then
+    /// syncs the disk, and after that only reads. The journal is read once.
     pub fn open<D: Disk>(alloc: Global, disk: &mut D) -> Result<(Store, Reader), OpenFault>
         ensures call { Call store_open_fails OpensStore (D.history disk.old) (D.history disk.new) result }
         ensures whole { IfOk result (λ opened. opened.0.broken ≡ false) }
@@ -118,7 +118,7 @@ impl Store {
         stand_at(disk, SETUP, setup)
     }
 
-    /// Reads the snapshot into the caller's buffer and returns that part of it.
+    /// Reads the snapshot into the caller's buffer and returns that part of the buffer.
     pub fn snapshot<'b, D: Disk>(
         &self,
         disk: &mut D,
@@ -134,7 +134,7 @@ impl Store {
         lend(disk, self.slot.snapshot(), SNAPSHOT_LENGTH, buffer)
     }
 
-    /// Reads the payload of record `i`, counted from 0, into the caller's buffer and returns that part of it, as
+    /// Reads the payload of record `i`, counted from 0, into the caller's buffer and returns that part of the buffer, as
     /// `Area::record` does.
     pub fn record<'b, D: Disk>(
         &self,
@@ -232,7 +232,7 @@ pub(crate) fn stand_at<D: Disk>(disk: &mut D, at: u64, bytes: &[u8]) -> Result<b
     Ok(true)
 }
 
-/// Reads the `n` bytes from this place on into the caller's buffer and returns that part of it.
+/// Reads the `n` bytes from this place on into the caller's buffer and returns that part of the buffer.
 pub(crate) fn lend<'b, D: Disk>(
     disk: &mut D,
     at: u64,
