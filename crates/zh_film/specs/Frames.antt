@@ -1,4 +1,4 @@
--- What is known of a conversation, time after time.
+-- What is known of a conversation at successive times.
 use Rattle.std.specs.Prelude.{◌≡◌, ◌≢◌, ◌⊎◌, ◌+◌, ℕ, List, [], ◌∷◌, map, Option}
 use Rattle.std.specs.declared.io.traits.Read.{Ghosts as Readers}
 use Rattle.std.specs.declared.io.traits.Write.{Ghosts as Writers}
@@ -10,7 +10,7 @@ use Rattle.zh_film.specs.declared.kind.FrameKind.TheVariants.{Asks, Between, End
 use Rattle.zh_film.specs.declared.film.Film.{Film}
 use Rattle.zh_film.specs.declared.film.Scene.{Scene}
 
--- at one time: the rest of the input and the output so far, if they are known, and the trail of the disk
+-- at one time: what is noted about a read, the rest of the input and the output so far, if they are known, and the trail of the disk
 pub record Frame : Type 0 where
   pub kind : FrameKind
   pub left : Option (List ℕ)
@@ -22,6 +22,7 @@ abbrev pub now_at : Option (List ℕ) → Option (List ℕ) → Trail → Frame
 now_at left written disk = record { kind = Between; left = left; written = written; disk = disk }
 
 module _ {R W D : Type 0} where
+  -- the frame of a scene
   abbrev pub frame_of : Readers R → Writers W → Disks D → Scene R W D → Frame
   frame_of readers writers disks s = record {
     kind = s.kind;
@@ -34,7 +35,7 @@ module _ {R W D : Type 0} where
   abbrev pub frames : Readers R → Writers W → Disks D → Film R W D → List Frame
   frames readers writers disks film = map (frame_of readers writers disks) (scenes film)
 
--- P holds of each two successive frames, from `first` over these, which are listed latest first, to the one now
+-- P holds of each two successive frames: `first`, then these, which are listed latest first, and then `now`
 abbrev pub InOrder : (Frame → Frame → Type 0) → Frame → List Frame → Frame → Type 0
 InOrder P first [] now = P first now
 InOrder P first (f ∷ fs) now = P f now × InOrder P first fs f

@@ -1,4 +1,4 @@
--- The values of a past.
+-- The values of a `Past`, a list that only clauses read.
 use Rattle.std.specs.Prelude.{ℕ, List, [], ◌∷◌, length}
 use Rattle.zh_film.specs.declared.past.Past.{Past}
 use Rattle.zh_film.specs.declared.past.Past.TheVariants.{Start, After'}

@@ -72,7 +72,7 @@ impl<R, W, D> Film<R, W, D> {
         self.add(FrameKind::Between, reader, writer, disk);
     }
 
-    /// Notes what the three are now. `kind` says whether that is before a read, after one, or at another time.
+    /// Notes what the three are now. `kind` says what is noted about a read.
     fn add(&mut self, kind: FrameKind, reader: &R, writer: &W, disk: &D)
         ensures noted { scenes self.new ≡ scene kind reader.now writer.now disk.now ∷ scenes self.old }
         ensures unasked { answers_noted self.new ≡ answers_noted self.old }
@@ -86,7 +86,8 @@ impl<R, W, D> Film<R, W, D> {
         self.scenes.push(Snapshot::of(&scene));
     }
 
-    /// Reads once and notes what the three are before and after the read. A read that gives no byte is noted as the end.
+    /// Reads once and notes what the three are before and after the read. A read that gives no byte is noted as the end
+    /// of the input.
     pub fn read(
         &mut self,
         reader: &mut R,

@@ -1,14 +1,14 @@
-//! Whether a frame was noted before or after a read.
+//! What a frame notes about a read.
 
-/// Whether a frame was noted before or after a read.
+/// What a frame notes about a read.
 #[derive(Clone, Copy, Debug, PartialEq, Eq)]
 pub enum FrameKind {
     /// A read comes next.
     Asks,
     /// A read has just failed.
     Failed,
-    /// A read has just given no byte: the input is at its end.
+    /// A read has just given no byte, which counts as the end of the input.
     Ended,
-    /// None of these.
+    /// Anything else, for example that a read has just given bytes.
     Between,
 }
