@@ -1,4 +1,4 @@
--- What becomes of a companion that can be empty.
+-- What becomes of a companion, which is removed if it is empty.
 use Rattle.std.proofs.Common.{◌≡◌, ◌∙◌, ◌∷◌, ◌≤◌, ℕ, List, [], length, Option, Some, None, Result, Ok, Err, IfOk, refl, sym, ap, subst, inl, inr, ⊎_elim, arith}
 use Rattle.std.specs.Prelude.{◌⊎◌, ◌++◌, IfErr, IfSome, codes}
 use Rattle.std.specs.declared.io.Error.{Error}

@@ -56,7 +56,8 @@ abbrev pub fault_of_locking : ErrorKind → FileFault
 fault_of_locking kinds.Unsupported = faults.Device causes.SecondName
 fault_of_locking kind = fault_of_found kind
 
--- what a cause says about what is at the path: that it is nothing, a folder or something else; the other causes say nothing
+-- what a cause says about what is at the path: that there is nothing, a folder, or neither a file nor a folder; the other causes
+-- say nothing
 abbrev pub IsCauseAt : Standing → FileCause → Type 0
 IsCauseAt standing causes.Missing = standing ≡ nothing
 IsCauseAt standing causes.Folder = standing ≡ folder

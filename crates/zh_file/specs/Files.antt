@@ -1,4 +1,4 @@
--- What is known of a file by its path.
+-- What is known of texts and disks by their paths, and of a disk that is opened.
 use Rattle.std.specs.Prelude.{◌≡◌, ◌≤◌, ◌+◌, ◌⊎◌, ℕ, List, [], length, Option, IfSome, IsTrue}
 use Rattle.zh_disk.specs.Disk.{Trail, disk_length, fresh_trail}
 use Rattle.zh_disk.specs.History.{History}

@@ -69,7 +69,7 @@ unless_fit false = setbacks.Unfit ∷ []
 abbrev pub is_fit : {D : Type 0} → Ghosts D → D → Bool
 is_fit g d = g.is_clean d && nat_eq (length (g.seen d)) disk_length
 
--- how its calls failed, and that it is not fit to be a disk's, if so
+-- how its calls failed and, if it is not fit to be a disk's, that too
 abbrev pub setbacks_of : {D : Type 0} → Ghosts D → Locked D → List Setback
 setbacks_of g l = unless_fit (is_fit g l.file) ++ map setbacks.Used (items l.failed)
 

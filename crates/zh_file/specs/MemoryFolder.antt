@@ -46,12 +46,12 @@ module _ {R : Type 0} where
   abbrev pub disk_in : MemoryFolder R → List ℕ → Option (List ℕ)
   disk_in folder path = Some (bytes_of (standing_at folder path))
 
-  -- this is at the path then, and everything else is unchanged
+  -- afterwards this is at the path, and nothing has changed at any other path
   pub record PutsAt (path : List ℕ) (standing : Standing) (old new : MemoryFolder R) : Type 0 where
     pub here : standing_at new path ≡ standing
     pub others : (place : List ℕ) → place ≢ path → standing_at new place ≡ standing_at old place
 
-  -- the call was counted down. It fails if none was left; otherwise it fails only if memory is refused, or for this reason
+  -- one call fewer still passes. The call fails if none was left; otherwise it fails only if memory is refused, or for this reason
   pub record Spends {T : Type 0} (reason : Type 0) (result : Result T Error) (old new : MemoryFolder R) : Type 0 where
     pub spent : new.calls ≡ old.calls - 1
     pub blown : old.calls ≡ 0 → IsErr result

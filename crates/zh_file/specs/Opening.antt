@@ -1,4 +1,4 @@
--- What opening a disk leaves in a folder, and which fault has which cause.
+-- What opening a disk leaves in a folder, and what each fault says about its cause.
 use Rattle.std.specs.Prelude.{◌≡◌, ◌≢◌, ◌⊎◌, ◌<◌, ◌+◌, ℕ, Bool, IsTrue, List, Result, IfOk, IfErr}
 use Rattle.zh_disk.specs.Disk.{disk_length}
 use Rattle.zh_disk.specs.History.{History}

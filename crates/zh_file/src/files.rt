@@ -1,4 +1,4 @@
-//! The texts and disks that the program is given by name, and those in a folder.
+//! The texts and disks that the program opens by their paths, and those in a folder.
 ghost use Rattle.std.specs.Prelude.{◌≡◌, ℕ, List, Option, IfOk, ◌+◌, None, Some, MatchResult, option_map};
 ghost use Rattle.zh_film.specs.Past.{number};
 ghost use Rattle.zh_file.specs.Causes.{EndsAt};
@@ -67,7 +67,7 @@ pub trait Files {
         ensures meets { Meets path.now result (failed self.old) (failed self.new) }
         ensures begins { IfOk result (λ disk. Begins (disk_at self.old path.now) (Self.Disk.history disk)) };
 
-    /// Opens the disk at this path. If there is none, makes one of zeros.
+    /// Opens the disk at this path. If there is no file or an empty one, makes a disk of zeros.
     fn disk_or_make(&mut self, right: Self::Right, path: &str) -> Result<Self::Disk, FileFault>
         ensures call { IsCallOfFiles text_at disk_at calls self.old self.new }
         ensures touches { IfKnown (TouchesOnly path.now) (places self.old) (places self.new) }

@@ -91,8 +91,8 @@ impl<D: File> Locked<D> {
         Ok(())
     }
 
-    /// Fills the file with zeros if it is empty. If that fails, sets its length back to 0, so that it can be filled another time,
-    /// unless the sync failed: after that the file must not be used. A file that is not empty keeps its bytes at each moment.
+    /// Fills the file with zeros if it is empty. If that fails, tries to set its length back to 0, so that it can be filled another
+    /// time, unless the sync failed: after that the file must not be used. A file that is not empty keeps its bytes at each moment.
     pub(crate) fn fill(&mut self) -> io::Result<()>
         requires usable { IsTrue (D.is_usable self.old.file) }
         requires synced { Only (D.seen self.old.file) (D.may_leave self.old.file) }

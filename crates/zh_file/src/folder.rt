@@ -24,7 +24,7 @@ pub enum Found {
 
 /// The calls at paths.
 ///
-/// What is at each path is a model, and possibly nothing is known of it. A file that was locked is changed by its own
+/// `known` is a model of what is at each path. Of some folders nothing is known. A file that was locked is changed by its own
 /// calls, which the model does not follow.
 pub trait Folder {
     /// The reader of a text.
@@ -59,7 +59,7 @@ pub trait Folder {
         ensures call { IfKnown (LooksAt (λ places. IsKind (found_at places path.now)) result) (known self.old) (known self.new) }
         ensures why { SaysWhy (known self.old) path.now result };
 
-    /// The path of the companion of the disk at this path, without links.
+    /// The path of the companion of the disk at this path, after links are followed.
     fn companion(&mut self, path: &str) -> io::Result<String>
         ensures rest { LeavesRest disk_at left texts self.old self.new }
         ensures noted { failed self.new ≡ noted_at path.now asked_with result (failed self.old) }
@@ -102,7 +102,8 @@ pub trait Folder {
         ensures call { IfKnown (ActsAt (Removes path.now) result) (known self.old) (known self.new) }
         ensures gone { IfOk result (λ _. IfSome (known self.new) (λ now. now.places.stands path.now ≡ nothing)) };
 
-    /// Unlocks the file of the disk at this path by dropping it, as it is. Notes its failed calls.
+    /// Unlocks the file of the disk at this path by dropping it, as it is. Notes its failed calls and, if it is not fit to be a
+    /// disk's, that too.
     fn unlock(&mut self, path: &str, locked: Locked<Self::File>)
         ensures unlocks { Unlocks disk_at known left (IsLeftOf Self.File.Disk locked) self.old self.new }
         ensures texts { texts self.new ≡ texts self.old }

@@ -19,9 +19,9 @@ use zh_disk::Disk;
 /// A disk in the folders of the operating system.
 type HostDisk<'a, S> = <FolderFiles<HostFolder<'a, S>> as Files>::Disk;
 
-/// Its file, which is the library's. Replay the calls that this file has recorded, with their answers, from what `S` says that
-/// it held: the disk is honest exactly if the replay is, has the bytes that the replay gives, and a stop can leave of it what
-/// the replay says. (For the companion, which has the same type, `S` says what that held.)
+/// Returns the disk's file, which is of the library's type. Replay the calls that this file has recorded, with their answers,
+/// from what `S` says that it held: the disk is honest exactly if the replay is, has the bytes that the replay gives, and a stop
+/// can leave of it what the replay says. (For the companion, which has the same type, `S` says what that held.)
 pub fn honest_as_replayed<'a, S: Start>(disk: HostDisk<'a, S>) -> FileOf<S>
     ensures honest { (⟦<HostDisk<'a, S> as Disk>⟧.history disk).honest
         ≡ (replay (start_of S.Start result) (⟦<Host as Calls>⟧.history (calls_of result))).is_honest }

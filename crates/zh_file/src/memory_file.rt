@@ -12,8 +12,8 @@ use zh_disk::{DISK_LENGTH, Disk, MemoryDisk};
 
 /// A file in memory. A given number of calls pass, and then each call fails.
 ///
-/// If the file has the length of a disk, it also has a device, on which a stop can be tried. A write that fails still reaches
-/// the device.
+/// If the file had the length of a disk when it was made or last synced, it also has a device, on which a stop can be tried; it
+/// has none if memory for it was refused. A write that fails still reaches the device.
 #[derive(Drop)]
 pub struct MemoryFile {
     alloc: Global,
@@ -55,7 +55,7 @@ impl MemoryFile {
         }
     }
 
-    /// The device, with the writes that a stop can still undo.
+    /// The device, if there is one, with the writes that a stop can still undo.
     pub fn into_disk(self) -> Option<MemoryDisk> {
         self.device
     }

@@ -34,7 +34,7 @@ pub struct Placed {
     stood: Stood,
 }
 
-/// A folder in memory, without links. A given number of calls pass, and then each call fails.
+/// A folder in memory, without links. A given number of calls at paths pass, and then each fails. Unlocking does not count as one.
 #[derive(Drop)]
 pub struct MemoryFolder<R> {
     alloc: Global,
@@ -102,7 +102,7 @@ impl<R> MemoryFolder<R> {
         Ok(())
     }
 
-    /// The length of the file at this path. `None` if there is none.
+    /// The length of the file at this path. `None` if there is no file.
     pub fn length_at(&self, path: &str) -> Option<u64>
         ensures { MatchOption result ((bytes : List ℕ) → standing_at self.now path.now ≢ filed bytes)
             (λ n. (bytes : List ℕ) × (standing_at self.now path.now ≡ filed bytes) × (n ≡ length bytes)) }
@@ -162,7 +162,7 @@ impl<R> MemoryFolder<R> {
         Ok(MemoryFile::new(self.alloc, file, self.file_calls))
     }
 
-    /// The path of the companion.
+    /// The path of the companion of the disk at this path.
     fn beside(&self, path: &str) -> Result<String, AllocError>
         ensures { IfOk result (λ name. string_bytes name ≡ path.now ++ codes "-wal") }
     {

@@ -13,7 +13,7 @@ use std::io::{self, ErrorKind};
 use std::snapshot::Snapshot;
 use zh_film::Past;
 
-/// How a call failed.
+/// How a call failed, or that a locked file is not fit to be a disk's.
 #[derive(Drop)]
 pub enum Setback {
     /// An error of a call at a path.

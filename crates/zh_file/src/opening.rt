@@ -1,4 +1,4 @@
-//! Opening a disk over the file at a path of a folder.
+//! Opening a disk over the file at a path in a folder.
 ghost use Rattle.std.specs.Prelude.{◌≡◌, ◌↔◌, ◌⊎◌, ℕ, List, length, false, IfErr, IfOk, IfSome, IsTrue};
 ghost use Rattle.sqlite_disk.specs.Disk.{Only};
 ghost use Rattle.zh_disk.specs.Disk.{disk_length, fresh_trail};
@@ -97,8 +97,8 @@ fn length_at<F: Folder>(folder: &mut F, path: &str) -> Result<u64, FileFault>
     }
 }
 
-/// Opens and locks the file at this path, and removes its companion if that is empty. After that the device has what a read
-/// gives.
+/// Opens and locks the file at this path, and tries to remove its companion if that is empty. After that the device has what a
+/// read gives.
 fn lock<F: Folder>(
     folder: &mut F,
     right: F::Right,
@@ -146,7 +146,7 @@ fn clear_companion<F: Folder>(folder: &mut F, path: &str, locked: &F::Companion)
     Ok(())
 }
 
-/// Makes a locked file a disk if it has the length of one. If not, unlocks it.
+/// Makes a locked file a disk if it has the length of one. If not, or if it can't be measured, unlocks it.
 fn hand_over<F: Folder>(
     folder: &mut F,
     path: &str,

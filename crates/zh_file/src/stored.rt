@@ -15,7 +15,7 @@ use std::snapshot::Snapshot;
 use zh_disk::{DISK_LENGTH, Disk, DiskFault};
 use zh_film::Past;
 
-/// A file, and the ranges that were written since its last sync. Only clauses read these.
+/// A file, and the ranges that were written since its last sync. Only clauses read the ranges.
 #[derive(Drop)]
 pub(crate) struct HeldFile<D: File> {
     pub(crate) file: D,
@@ -45,8 +45,8 @@ pub struct Stored<D: File> {
     ghost unrefused: { is_over ≡ false → refusals ≡ 0 },
 }
 
-/// A file of a known type, which can be taken out of its disk. Code that is generic over folders can't take a file out and begin
-/// over with it, because it does not know the type of the folder's files.
+/// A file of a known type, which can be taken out of its disk. Code that is generic over folders can't take a file out and make
+/// another disk of it, because it does not know the type of the folder's files.
 pub trait KnownFile: File {}
 
 impl<D: KnownFile> Stored<D> {

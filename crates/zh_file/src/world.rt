@@ -3,7 +3,7 @@
 /// What became of a remark, which a task makes in addition to its answer.
 #[derive(Clone, Copy, Debug, PartialEq, Eq)]
 pub enum Remark {
-    /// It was written.
+    /// It was written, or there was none.
     Whole,
     /// The writer failed while it was written.
     Broken,

@@ -25,7 +25,7 @@ use sqlite_std_file::OpenError;
 use std::io::{self, Cursor, ErrorKind, Read};
 
 impl<R> MemoryFolder<R> {
-    /// Counts a call down. Fails if no more calls pass.
+    /// Counts down the calls that still pass. Fails if none is left.
     fn pass(&mut self) -> io::Result<()>
         ensures same { self.new ≡ record self.old { calls = self.new.calls } }
         ensures spent { self.new.calls ≡ self.old.calls - 1 }

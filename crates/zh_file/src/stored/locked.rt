@@ -11,8 +11,9 @@ use std::io::{self, ErrorKind};
 use std::snapshot::Snapshot;
 use zh_film::Past;
 
-/// A locked file. It notes what it was before each of its calls, and which of them failed. Only clauses read these notes. Nothing
-/// else reaches the file: code that is generic over folders can neither drop a locked file nor take the file out.
+/// A locked file. It notes what it was before each of its calls, and the kinds of the errors of those that failed. Only clauses
+/// read these notes. No other call reaches the file: code that is generic over folders can neither drop a locked file nor take
+/// the file out.
 #[derive(Drop)]
 pub struct Locked<D: File> {
     file: D,
