@@ -11,7 +11,7 @@ use crate::shares::{ShareFault, Shares};
 use crate::weights::Weights;
 use std::alloc::{AllocError, Global};
 
-/// The seats of a house in proportion to weights, rounded to the nearest (GPR sections 88 and 103).
+/// The seats of a house in proportion to weights, rounded to the nearest whole number (GPR sections 88 and 103).
 ///
 /// The divisor is given as a fraction that is not reduced: the sum of two weights over the sum of their seats.
 /// These are the first weight whose last seat is worth least, and the first weight whose next seat would be worth
@@ -50,7 +50,7 @@ fn give_seats(alloc: Global, weights: &[u64], house: u32) -> Result<Vec<u32>, Al
     Ok(seats)
 }
 
-/// A weight times a number of half seats.
+/// A weight times a number of half seats. The product fits into 64 bits.
 fn times(weight: u64, halves: u32) -> u64
     requires weight { weight ≤ 10 ^ 14 }
     requires halves { halves ≤ 801 }

@@ -4,7 +4,8 @@ ghost use Rattle.zh_divisors.specs.Line.{IsMatrixLine, clamped, line_divisor};
 ghost use Rattle.zh_divisors.specs.LineSeats.{AreGiven, IsLastCell, IsNextCell, IsSmallLine, last_signpost, next_signpost};
 ghost use Rattle.zh_divisors.specs.Sums.{sum_to};
 
-/// The least whole number above 2 * `votes` * 10^12 / `signpost`.
+/// The least whole number above 2 * `votes` * 10^12 / `signpost`. With the signpost of a cell's next seat (`next_signpost`) it is
+/// the least divisor, in millionths, under which the cell does not get that seat, a half rounded up.
 fn least_above(votes: u64, signpost: u128) -> u128
     requires votes { votes ≤ 10 ^ 14 }
     requires positive { 1 ≤ signpost }
@@ -13,7 +14,8 @@ fn least_above(votes: u64, signpost: u128) -> u128
     2 * (u128::from(votes) * 1_000_000_000_000) / signpost + 1
 }
 
-/// The greatest whole number below 2 * `votes` * 10^12 / `signpost`.
+/// The greatest whole number below 2 * `votes` * 10^12 / `signpost`. With the signpost of a cell's last seat (`last_signpost`) it
+/// is the greatest divisor, in millionths, under which the cell keeps that seat, a half rounded down, or 0 if there is none.
 fn greatest_below(votes: u64, signpost: u128) -> u128
     requires some { 1 ≤ votes }
     requires votes { votes ≤ 10 ^ 14 }
@@ -52,7 +54,7 @@ pub fn line(votes: &[u64], others: &[u64], target: u32, most: u64) -> u64
     hold((least + greatest) / 2, most)
 }
 
-/// The doubled signpost of a cell's next seat, times the divisor of the line that crosses there, in millionths.
+/// The doubled signpost of a cell's next seat, 2 s + 1, times the divisor, in millionths, of the line that crosses there.
 pub(crate) fn next_signpost(others: &[u64], seats: &[u32], cell: usize) -> u128
     requires other { cell < length others.now }
     requires seat { cell < length seats.now }
@@ -64,7 +66,7 @@ pub(crate) fn next_signpost(others: &[u64], seats: &[u32], cell: usize) -> u128
     u128::from(others[cell]) * (2 * u128::from(seats[cell]) + 1)
 }
 
-/// The doubled signpost of a cell's last seat, times the divisor of the line that crosses there, in millionths.
+/// The doubled signpost of a cell's last seat, 2 s - 1, times the divisor, in millionths, of the line that crosses there.
 pub(crate) fn last_signpost(others: &[u64], seats: &[u32], cell: usize) -> u128
     requires other { cell < length others.now }
     requires seat { cell < length seats.now }
@@ -76,7 +78,7 @@ pub(crate) fn last_signpost(others: &[u64], seats: &[u32], cell: usize) -> u128
     u128::from(others[cell]) * (2 * u128::from(seats[cell]) - 1)
 }
 
-/// Votes times a signpost.
+/// Votes times a signpost as `next_signpost` gives it. The product fits into 128 bits.
 fn times(votes: u64, signpost: u128) -> u128
     requires votes { votes ≤ 10 ^ 14 }
     requires signpost { signpost ≤ 801 * 10 ^ 18 }
