@@ -8,6 +8,7 @@ pub record Divisors : Type 0 where
   pub of_rows : List ℕ
   pub of_columns : List ℕ
 
+-- these divisors, which are in millionths
 abbrev pub millionths : List ℕ → List ℕ → Divisors
 millionths of_rows of_columns = record { scale = 1000000; of_rows = of_rows; of_columns = of_columns }
 

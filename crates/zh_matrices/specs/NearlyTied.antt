@@ -1,10 +1,10 @@
--- Near ties: two matrices under the same divisors, each within the factor 1 + 2^-17 = 131073 / 131072.
+-- Near ties: two matrices that follow from the same divisors within the factor 1 + 2^-17 = 131073 / 131072.
 use Rattle.std.specs.Prelude.{◌≡◌, ◌≢◌, ℕ, ◌+◌, ◌-◌, ◌*◌, ◌<◌, ◌≤◌, List}
 use Rattle.zh_matrices.specs.Divisors.{Divisors}
 use Rattle.zh_matrices.specs.Question.{Question, cell}
 use Rattle.zh_matrices.specs.SeatMatrix.{Follows}
 
--- n / p passes the halves around s by at most the factor
+-- n / p rounds to s, or passes a half next to s by at most the factor
 pub record NearlyRounds (n p s : ℕ) : Type 0 where
   pub to_upper : 131072 * (2 * n) ≤ 131073 * ((2 * s + 1) * p)
   pub from_lower : 1 ≤ s → 131072 * ((2 * s - 1) * p) ≤ 131073 * (2 * n)

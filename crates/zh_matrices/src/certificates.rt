@@ -56,7 +56,7 @@ impl<'a> Trial<'a> {
     }
 }
 
-/// Whether the seats have the totals and follow from the divisors by this kind of rounding.
+/// Whether the seats have the totals and follow from the divisors, which are in millionths, by this kind of rounding.
 pub fn follows(
     rounding: Rounding,
     proposal: &Proposal<'_>,

@@ -14,6 +14,7 @@ pub const MOST_OF_ROW: u64 = 1_000_000_000_000_000_000;
 /// The greatest divisor of a column, in millionths.
 pub const MOST_OF_COLUMN: u64 = 1_000_000_000_000;
 
+/// The votes, row by row, and the seats that each row and each column is to get.
 #[derive(Drop)]
 pub struct Question<'a> {
     pub rows: usize,

@@ -12,7 +12,7 @@ pub enum Rounding {
     Strict,
     /// It rounds to the number below it and to the number above it.
     Weak,
-    /// The same, and so does a quotient that passes a half by at most the factor 131073 / 131072 = 1 + 2^-17.
+    /// It rounds to both, and so does a quotient that differs from a half by at most the factor 131073 / 131072 = 1 + 2^-17.
     Near,
 }
 
@@ -42,7 +42,7 @@ fn may_round(votes: u128, product: u128, seats: u128) -> bool
     seats == 0 || (2 * seats - 1) * product <= 2 * votes
 }
 
-/// Whether this quotient passes the halves around the seats by at most the factor 1 + 2^-17.
+/// Whether this quotient rounds to the seats, or passes a half next to them by at most the factor 1 + 2^-17.
 fn nearly_rounds(votes: u128, product: u128, seats: u128) -> bool
     requires votes { votes ≤ 10 ^ 26 }
     requires product { product ≤ 10 ^ 30 }
