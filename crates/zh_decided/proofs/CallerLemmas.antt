@@ -1,4 +1,4 @@
--- The lemmas that crates above may use.
+-- The lemmas that crates above can use.
 pub use Rattle.zh_decided.proofs.CheapestLemmas.{cheapest}
 pub use Rattle.zh_decided.proofs.CircleLemmas.{around}
 pub use Rattle.zh_decided.proofs.CycleTurnLemmas.{few-fitting}

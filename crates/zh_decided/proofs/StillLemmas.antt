@@ -1,4 +1,4 @@
--- If no column falls, the potentials are fair and the greatest.
+-- If the potential of no column falls, the potentials are fair and the greatest.
 use Rattle.std.proofs.Common.{◌≡◌, ℕ, ◌<◌, ◌≤◌, None, List, arith}
 use Rattle.zh_decided.specs.Levels.{AreAbove, AreColumnMarks, AreRowMarks, mark_at, potential_at}
 use Rattle.zh_decided.specs.Prices.{Priced}

@@ -18,7 +18,7 @@ pub record AreBeyond (q : Question) (x : Divisors) (seats : List ℕ) : Type 0 w
   pub strict : IsStrict q x seats
   pub none : (others : List ℕ) → NoneInRange q others
 
--- divisors of rows and columns in millionths give the seats, or the seats are beyond such divisors
+-- None: these divisors in millionths give the seats; Some x: the seats follow from x and are beyond divisors in millionths
 abbrev pub GivesOrBeyond : Question → List ℕ → List ℕ → List ℕ → Option FloatingDivisors → Type 0
 GivesOrBeyond q of_rows of_columns seats None = GiveWithin q of_rows of_columns seats
 GivesOrBeyond q of_rows of_columns seats (Some x) = AreBeyond q (floating x) seats
@@ -29,8 +29,8 @@ pub record AreFoundTied (q : Question) (x : Divisors) (findings : Findings) (d g
   pub other_fits : FitsVotes q findings.others
   pub tied : AreNearlyTied q x findings.seats findings.others d g
 
--- what each decision says: these rows have too few seats; divisors in millionths give the seats; two matrices are nearly tied;
--- the seats are beyond the divisors of a sheet
+-- what each decision says: the votes of these rows lie in columns with too few seats; divisors in millionths give the seats; two
+-- matrices are nearly tied; no divisors in millionths in the ranges give seats
 abbrev pub Decides : Question → Findings → Decision → Type 0
 Decides q findings (Impossible rows) = HasTooFewSeats q rows
 Decides q findings Seats = GiveWithin q findings.of_rows findings.of_columns findings.seats

@@ -1,5 +1,5 @@
 -- One level of a sweep: each row and each column with its potential and the line that lowered it; and the trail along which
--- columns fell from level to level.
+-- the potentials of columns fell from level to level.
 use Rattle.std.specs.Prelude.{◌≡◌, ◌≢◌, ℕ, ◌+◌, ◌-◌, ◌*◌, ◌^◌, ◌<◌, ◌≤◌, MatchOption, Option, Some, None, List, slice_index_or}
 use Rattle.zh_decided.specs.Prices.{Priced}
 use Rattle.zh_decided.specs.Sweeps.{AreCapped, AreFair, AreFree, AreOut, IsCycle, IsStill, step_at}
@@ -70,7 +70,7 @@ pub record IsLowColumn (m : Priced) (bounds : Bounds) (rows before : List Mark) 
   pub is : IsColumnMark m bounds rows (potential_at before column) column mark
   pub low : mark.potential < bounds.column_floor
 
--- a trail goes back from a column that fell at the last level, one level per step: the giver lowered the column, and the column
+-- a trail goes back from a column whose potential fell at the last level, one level per step: the giver lowered the column, and the column
 -- lowered the taker, which is the giver of the step before. `value` is the potential that each column fell to
 pub record IsTrail (m : Priced) (bounds : Bounds) (columns : List Mark) (trail : Trail) : Type 0 where
   pub value : ℕ → ℕ
@@ -95,7 +95,7 @@ pub record HasRoom (m : Priced) (bounds : Bounds) (levels : ℕ) (columns : List
   pub free : AreFree bounds
   pub each : (g : ℕ) → g < m.cells.columns → (levels + 1) * 2 ^ 38 + 1 ≤ potential_at columns g
 
--- the sweep leaves its bounds, and the columns are too low to rule that out
+-- the sweep leaves its bounds; so these are not free, or a column is too low
 pub record GoesOut (m : Priced) (bounds : Bounds) (levels : ℕ) (columns : List Mark) : Type 0 where
   pub out : AreOut m bounds levels (potential_at columns)
   pub no_room : ¬ HasRoom m bounds levels columns

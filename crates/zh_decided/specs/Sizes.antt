@@ -1,4 +1,4 @@
--- Floating-point divisors whose products fit into 128 bits.
+-- Floating-point divisors with short mantissas: the product of two mantissas fits into 128 bits.
 use Rattle.std.specs.Prelude.{ℕ, ◌^◌, ◌<◌, ◌≤◌, List}
 use Rattle.zh_decided.specs.Floats.{float_at}
 use Rattle.zh_decided.specs.declared.floating.Floating.{Floating}

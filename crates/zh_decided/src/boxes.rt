@@ -19,7 +19,8 @@ use crate::sweep_bounds::Bounds;
 use crate::sweeps::{Swept, sweep};
 use zh_matrices::{LINES, MOST_OF_COLUMN, MOST_OF_ROW};
 
-/// The base of the potentials of rows: such a potential is this plus a scale, less the logarithm of the row's divisor.
+/// The base of the potentials of rows: such a potential is this plus the logarithm of 10^12, less that of the row's divisor in
+/// millionths.
 const BASE: u64 = 1 << 60;
 /// The logarithm of 2.
 const UNIT: u64 = 1 << 30;
@@ -30,8 +31,8 @@ fn box_from(bits: u32) -> Bounds
     requires few { bits ≤ 20 }
     ensures { IsBox bits result }
 {
-    // Both divisors of a cell are in millionths, so twice its votes count 10^12 times. That number is also the greatest column
-    // divisor.
+    // Both divisors of a cell are in millionths, so twice its votes are multiplied by 10^12. That number is also the greatest
+    // column divisor.
     let scale = logarithm(MOST_OF_COLUMN);
     let least = u64::from(bits) * UNIT;
     Bounds {
@@ -44,7 +45,7 @@ fn box_from(bits: u32) -> Bounds
     }
 }
 
-/// For each line, the logarithm that is `top` less its potential.
+/// For each line, `top` less its potential: the logarithm of its divisor.
 fn below(top: u64, potentials: &[u64; LINES]) -> [u64; LINES]
     ensures { (i : ℕ) → i < 32 → slice_index result i ≡ top - slice_index potentials.now i }
 {

@@ -1,4 +1,4 @@
-//! Seats are placed one at a time along augmenting paths, until no more can be placed.
+//! Seats are placed one at a time, directly or along augmenting paths, until no more can be placed.
 ghost use Rattle.std.specs.Prelude.{◌≡◌, ◌+◌, ◌<◌, IfErr, OnOk, length, ◌≢◌, ◌*◌};
 ghost use Rattle.zh_decided.specs.Bounds.{IsWithin, asked_in, bounds_of};
 ghost use Rattle.zh_decided.specs.Ways as words;

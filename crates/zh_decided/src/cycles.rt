@@ -25,8 +25,8 @@ pub struct Transfer {
     pub taker: usize,
 }
 
-/// The first `length` steps. The giver of each step is the taker of the next one, and the giver of the last step the taker of
-/// the first.
+/// The first `length` of these steps. The giver of each step is the taker of the next one, and the giver of the last step the
+/// taker of the first.
 #[derive(Clone, Copy)]
 pub struct Cycle {
     pub(crate) steps: [Transfer; LEVELS],

@@ -98,14 +98,14 @@ impl DecisionRoom {
 
 /// The slacks of a decision: each next seat must be too expensive by `GIVEN`, and each last seat cheap enough by `TAKEN`. They
 /// cover the rounding of divisors from 2^20 millionths on (4,096 units) and the errors of the logarithms (6 units). A matrix
-/// that is a least-cost flow with these slacks is the only one.
+/// that is a least-cost flow with these slacks is the only one that follows from any divisors.
 const GIVEN: u64 = 4_102;
 
 const TAKEN: u64 = 6;
 
 /// The sweep with these slacks ended at these potentials, so the seats are the only ones. Either divisors in millionths give
-/// them and are written to `of_rows` and `of_columns`, or no divisors in the ranges of `Beyond` do, and floating-point divisors
-/// are returned.
+/// them and are written to `of_rows` and `of_columns`, or no divisors in millionths in the ranges of `Beyond` do, and
+/// floating-point divisors are returned.
 fn only_seats(
     priced: &PricedSeats<'_>,
     potentials: &Potentials,

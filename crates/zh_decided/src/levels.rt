@@ -9,7 +9,7 @@ use crate::sweep_bounds::Bounds;
 use crate::sweeps::Potentials;
 use zh_matrices::{LINES, Question};
 
-/// How a sweep ends, or the trail of a column that still falls at the last level.
+/// How a sweep ends, or the trail of a column whose potential still falls at the last level.
 #[derive(Clone, Copy)]
 pub(crate) enum Descent {
     Still(Potentials),
@@ -18,7 +18,7 @@ pub(crate) enum Descent {
     Falls(Trail),
 }
 
-/// The first column that fell, and the row that lowered it.
+/// The first column whose potential fell at this level, and the row that lowered it.
 fn first_fallen(question: &Question<'_>, columns: &[Mark; LINES]) -> Option<(usize, usize)>
     ensures column { IfSome result (λ fallen. fallen.0 < question.now.columns) }
     ensures maker { IfSome result (λ fallen. (words.mark_at columns.now fallen.0).maker ≡ Some fallen.1) }
@@ -87,7 +87,7 @@ pub(crate) fn descend(
     }
 }
 
-/// The marks of the rows that follow from these columns. None if a row falls below its floor.
+/// The marks of the rows that follow from these columns. `None` if the potential of a row falls below its floor.
 pub(crate) fn row_marks(
     priced: &PricedSeats<'_>,
     bounds: Bounds,
@@ -111,8 +111,8 @@ pub(crate) fn row_marks(
     Some(rows)
 }
 
-/// The marks of the columns that follow from these rows, none above its potential `before`. None if a column falls below its
-/// floor.
+/// The marks of the columns that follow from these rows, none above its potential `before`. `None` if the potential of a column
+/// falls below its floor.
 pub(crate) fn column_marks(
     priced: &PricedSeats<'_>,
     bounds: Bounds,

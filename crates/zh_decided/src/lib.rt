@@ -1,5 +1,6 @@
 //! The decision on votes and the seats that rows and columns are to get: no seats fit, divisors of a sheet give seats, there is
-//! a near tie, or the seats are beyond the divisors of a sheet. One of these is found for every question within the limits.
+//! a near tie, or no divisors in millionths within narrower limits give seats. One of these is found for every question within
+//! the limits, if its row totals and its column totals have the same sum.
 #![tactic(auto)]
 
 mod boxes;

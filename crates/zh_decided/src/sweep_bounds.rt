@@ -1,8 +1,8 @@
 //! The bounds of a sweep: the slacks of its prices, and the caps and floors of its potentials.
 ghost use Rattle.std.specs.Prelude.{◌^◌, ◌≤◌};
 
-/// The bounds of a sweep. Potentials are in the unit of the logarithms: that of a row is 2^60 less the logarithm of its
-/// divisor, that of a column is the logarithm of its divisor.
+/// The bounds of a sweep. Potentials are in the unit of the logarithms. Up to one number that is added to all of them, that of a
+/// row is 2^60 less the logarithm of its divisor, and that of a column is the logarithm of its divisor.
 #[derive(Clone, Copy)]
 pub struct Bounds {
     /// The slacks: each next seat must be too expensive by `given`, and each last seat cheap enough by `taken`.

@@ -1,5 +1,6 @@
-//! Sweeps (Bellman-Ford): potentials are lowered until they no longer change, or until a cycle is found along which seats would
-//! cost less. And a bisection for the greatest slack with which they stop changing.
+//! Sweeps (Bellman-Ford): potentials are lowered until they no longer change, until a cycle is found along which seats would cost
+//! less, or until one falls below its floor. And a bisection for a slack with which a sweep ends at potentials, while there is a
+//! cycle with one unit more.
 ghost use Rattle.std.specs.Prelude.{◌≡◌, ℕ, ◌<◌, ◌+◌, ◌-◌, ◌≤◌};
 ghost use Rattle.zh_decided.specs.Gaps.{IsGap};
 ghost use Rattle.zh_decided.specs.Levels.{potential_at};
@@ -22,11 +23,11 @@ pub struct Potentials {
 /// How a sweep ends.
 #[derive(Clone, Copy)]
 pub enum Swept {
-    /// The potentials no longer change: they are the greatest within the bounds.
+    /// The potentials no longer change: they are the greatest that the bounds and the prices allow.
     Still(Potentials),
-    /// Seats can move along this cycle. They then cost less than before plus the slacks.
+    /// Seats can move along this cycle. They then cost less than before plus both slacks for each step.
     Cycle(Cycle),
-    /// A row or a column fell below its floor.
+    /// The potential of a row or a column fell below its floor.
     Out,
 }
 
@@ -54,8 +55,8 @@ pub fn sweep(priced: &PricedSeats<'_>, bounds: Bounds) -> Swept
     }
 }
 
-/// Two slacks of next seats, at most 2^36. With `still_at` the sweep ends at these potentials; with `cycle_at`, which is
-/// larger, it finds this cycle.
+/// Two slacks of next seats, at most 2^36. With `still_at` the sweep ends at these potentials. With `cycle_at`, which is
+/// larger, this is a cycle.
 #[derive(Clone, Copy)]
 pub struct Gap {
     pub still_at: u64,

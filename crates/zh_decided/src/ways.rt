@@ -166,7 +166,7 @@ fn next_row(
     None
 }
 
-/// Finds ways until a row that is short of a seat has one. Returns that row, or None if no row that is short of a seat can get
+/// Finds ways until a row that is short of a seat has one. Returns that row, or `None` if no row that is short of a seat can get
 /// a way.
 pub(crate) fn reach(
     bounds: &CellBounds<'_>,

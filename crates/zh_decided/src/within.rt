@@ -51,7 +51,7 @@ fn have_columns_room(question: &Question<'_>, seats: &[u32]) -> bool
     true
 }
 
-/// Gives each cell its lower bound. False if these exceed the upper bound of a cell or the total of a line.
+/// Gives each cell its lower bound. False if the lower bounds exceed the upper bound of a cell or the total of a line.
 fn place_least(bounds: &CellBounds<'_>, seats: &mut [u32]) -> bool
     requires { length seats.old ≡ bounds.now.question.now.rows * bounds.now.question.now.columns }
     ensures placed { OnTrue result (words.ArePlaced (asked_in bounds.now) (bounds_of bounds.now) seats.new) }
