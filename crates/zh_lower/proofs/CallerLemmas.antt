@@ -1,4 +1,4 @@
--- The lemmas that crates above may use.
+-- The lemmas that crates above can use.
 pub use Rattle.zh_lower.proofs.FilledLemmas.{started-replicate}
 pub use Rattle.zh_lower.proofs.SeatingLemmas.{memory_refused}
 pub use Rattle.zh_lower.proofs.ShownLemmas.{only_shown}

@@ -25,7 +25,8 @@ abbrev pub lower_or_fault : Result SeatMatrix NoLower → Result SeatMatrix Lowe
 lower_or_fault (Ok lower) = Ok lower
 lower_or_fault (Err reason) = Err (fault_of reason)
 
--- the reason holds: different sums of totals, a tie that the search reaches, or a decision whose matrices were tried in vain
+-- what holds for a reason: different sums of totals, a tie that the search reaches, or a decision whose matrices were tried in
+-- vain; nothing is said here of refused memory and of a row without votes
 abbrev pub HasReason : Question → NoLower → Type 0
 HasReason q Unbalanced = ¬ AreBalanced q
 HasReason q (Tied tie) = IsLowerTie q tie

@@ -17,8 +17,8 @@ pub record IsSeating (q : Question) (lower : SeatMatrix) : Type 0 where
   pub limits : AreWithinLimits q lower.divisors.of_rows lower.divisors.of_columns
   pub shown : IsShown q lower.divisors
 
--- no state of the search gives seats or is tied, the decision gives no divisors in millionths, and its matrices were tried in
--- vain
+-- no state of the search gives seats or is tied, a decision gives no divisors in millionths, and its matrices were tried in vain, or
+-- there is nothing to decide
 pub record NoneFound (q : Question) : Type 0 where
   pub none_before : NoneBefore q 2001
   pub none_given : NoneGiven q

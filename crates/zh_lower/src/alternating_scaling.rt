@@ -113,8 +113,8 @@ fn start_rows(question: &Question<'_>, state: &mut SearchState)
     middle_rows(question, &state.of_columns, &mut state.of_rows);
 }
 
-/// A half-step of the columns, the end test, a half-step of the rows, and the end test again. `room` contains the quotients of
-/// the state before the round, and afterwards those of the last state.
+/// A half-step of the columns, the end test and, if that does not end the search, a half-step of the rows and the end test again.
+/// `room` contains the quotients of the state before the round, and afterwards those of the last state.
 fn round(question: &Question<'_>, state: &mut SearchState, room: &mut SearchRoom) -> Option<Ending>
     requires proper { IsProper (asked question.now) }
     requires limits { AreWithinLimits (asked question.now) state.old.of_rows.items state.old.of_columns.items }
@@ -160,8 +160,8 @@ fn rounds(question: &Question<'_>, state: &mut SearchState, room: &mut SearchRoo
     None
 }
 
-/// The search. It starts with all columns at 1. None if no state of it gives seats or is tied. Otherwise `room` contains the
-/// seats that were found, or both matrices of the tie.
+/// The search. It starts with all columns at 1. `None` if no state of it gives seats or is tied. Otherwise `state` is the first
+/// such state, and `room` contains the seats that were found, or both matrices of the tie.
 pub fn search(
     question: &Question<'_>,
     state: &mut SearchState,

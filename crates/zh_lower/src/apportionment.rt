@@ -112,8 +112,8 @@ fn seats_on(mut tables: Tables, question: &Question<'_>) -> Result<Lower, NoLowe
     }
 }
 
-/// The seats of each group in each constituency, as `find` gives them, or why there are none: a tie with what `lot` needs, or
-/// an exhausted search with the decision that followed it. All memory is allocated before the search begins.
+/// The seats of each group in each constituency, as `find` gives them, or why there are none. A tie comes with what `lot` needs,
+/// and an exhausted search with the decision that followed it. All memory is allocated before the search begins.
 pub fn find_or_reason(
     alloc: Global,
     matrix: &Matrix,

@@ -18,7 +18,7 @@ use zh_matrices::{Proposal, Question, Rounding, follows};
 pub(crate) struct DivisorRoom {
     pub of_rows: Vec<u64>,
     pub of_columns: Vec<u64>,
-    /// The greatest column divisors that give some seats.
+    /// The column divisors from which a middle is computed: the greatest that give some seats, or those of the decision.
     pub greatest: Vec<u64>,
 }
 
@@ -58,8 +58,9 @@ fn middle_gives(proposal: &Proposal<'_>, room: &mut DivisorRoom) -> bool
     follows(Rounding::Strict, proposal, &room.of_rows, &room.of_columns)
 }
 
-/// Whether the middle from the greatest column divisors gives the seats, which are the only ones: scaled down or, if that
-/// fails, as they are. The middle is left in `room`.
+/// Whether a middle from the column divisors in `room.greatest` gives the seats, which must be the only ones that follow
+/// strictly from any divisors: the middle from these divisors over `scale` or, if that fails, from them as they are. The middle
+/// is left in `room`.
 pub(crate) fn gives_from(proposal: &Proposal<'_>, scale: u64, room: &mut DivisorRoom) -> bool
     requires proper { IsProper (asked proposal.now.question.now) }
     requires room { IsDivisorRoom (asked proposal.now.question.now) room.old }

@@ -45,7 +45,7 @@ fn are_strict(question: &Question<'_>, state: &SearchState, room: &SearchRoom) -
 }
 
 /// The end test at a state of the search. It leaves in the room the quotients of the state, and the seats that were found or
-/// both matrices of a tie. None if the state neither gives seats nor is tied.
+/// both matrices of a tie. `None` if the state neither gives seats nor is tied.
 pub(crate) fn end_test(
     question: &Question<'_>,
     state: &SearchState,

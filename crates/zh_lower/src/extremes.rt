@@ -1,5 +1,5 @@
-//! The least row divisors and the greatest column divisors that give some seats, found in rounds over all cells as in
-//! Bellman-Ford.
+//! The least row divisors and the greatest column divisors that give some seats, looked for in at most 1,000 rounds over all
+//! cells, as in Bellman-Ford.
 //!
 //! Row divisors start at the least value and column divisors at the greatest, and each moves only as far as a cell requires. So
 //! no row divisor rises above, and no column divisor falls below, that of any divisors within the limits that give these seats.

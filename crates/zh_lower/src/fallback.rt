@@ -50,7 +50,7 @@ fn make_readable<'x>(question: &'x Question<'x>, decided: &'x Findings, room: &m
     room.of_columns.copy_from_slice(&decided.of_columns);
 }
 
-/// Copies the seats to `into` and tells whether they have a middle, which is left in `room`.
+/// Copies the seats to `into` and tells whether they have a middle (`IsSecondFor`), which is left in `room`.
 fn try_seats<'x>(
     question: &'x Question<'x>,
     seats: &'x [u32],
@@ -77,7 +77,7 @@ fn try_seats<'x>(
 }
 
 /// Whether this decision gives seats with divisors in millionths: the middle for one of its matrices, or else the divisors of
-/// the decision itself. The seats are left in `seats`, and the divisors in `room`.
+/// the decision itself, made easier to read if possible. The seats are left in `seats`, and the divisors in `room`.
 pub(crate) fn seats_by_decision(
     question: &Question<'_>,
     decided: &Decided,

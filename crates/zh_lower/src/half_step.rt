@@ -22,7 +22,7 @@ struct LinePlaces {
     cells: usize,
 }
 
-/// Whether a line is unsettled: its quotients do not add up to its total, or one of them is on a half.
+/// Whether a line is unsettled: its quotients, rounded half up, do not add up to its total, or one of them is on a half.
 #[tactic(auto, using(crate::proofs::QuotientLemmas::line_steps))]
 fn is_unsettled(quotients: &[Quotient], places: LinePlaces, total: u32) -> bool
     requires cells { places.cells ≤ 32 }

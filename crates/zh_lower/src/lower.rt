@@ -44,7 +44,7 @@ impl Lower {
         }
     }
 
-    /// The seats of a group in a constituency, 0 to 400.
+    /// The seats of a group (column) in a constituency (row).
     pub fn seats(&self, row: u32, column: u32) -> u32
         requires row_from_1 { 1 ≤ row }
         requires row { row ≤ length self.now.divisors.of_rows }
@@ -56,7 +56,7 @@ impl Lower {
         self.seats[before + (column - 1) as usize]
     }
 
-    /// The divisor of a constituency in millionths, 1 to 10^18.
+    /// The divisor of a constituency in millionths.
     pub fn row_divisor(&self, row: u32) -> u64
         requires from_1 { 1 ≤ row }
         requires there { row ≤ length self.now.divisors.of_rows }
@@ -65,7 +65,7 @@ impl Lower {
         self.row_divisors[(row - 1) as usize]
     }
 
-    /// The divisor of a group in millionths, 1 to 10^12.
+    /// The divisor of a group in millionths.
     pub fn column_divisor(&self, column: u32) -> u64
         requires from_1 { 1 ≤ column }
         requires there { column ≤ length self.now.divisors.of_columns }
@@ -85,8 +85,8 @@ pub enum LowerFault {
     /// The search reached a tie: two different matrices follow from the same divisors. The first quotient on a half is in this
     /// row and this column.
     Tied(u32, u32),
-    /// The search found neither seats nor a tie, and the decision gave no seats that can be shown. Or the row totals and the
-    /// column totals have different sums.
+    /// The row totals and the column totals have different sums, or the search found neither seats nor a tie and the decision
+    /// gave no seats that can be shown.
     Exhausted,
 }
 

@@ -39,7 +39,7 @@ pub(crate) fn product(one: u64, other: u64) -> u128
     u128::from(one) * u128::from(other)
 }
 
-/// A quotient of two numbers that fit into 64 bits, as they do for most cells.
+/// The quotient as [`divided`] gives it, from numbers that fit into 64 bits, as they do for most cells.
 fn divided_short(raised: u64, double: u64) -> Quotient
     requires { 1 ≤ double }
     ensures rounded { result.rounded ≡ raised / double }
@@ -51,7 +51,7 @@ fn divided_short(raised: u64, double: u64) -> Quotient
     }
 }
 
-/// The quotient n / p, from 2 n + p and 2 p.
+/// The quotient n / p, rounded half up, from `raised`, which is 2 n + p, and `double`, which is 2 p.
 fn divided(raised: u128, double: u128) -> Quotient
     requires { 1 ≤ double }
     ensures rounded { result.rounded ≡ raised / double }

@@ -100,7 +100,7 @@ pub fn lot(alloc: Global, question: &Question<'_>, tie: &Tie) -> Result<Ranges, 
     Ok(ranges)
 }
 
-/// A quotient as a number of seats, capped at 401, which is more than a row gets.
+/// A quotient as a number of seats, capped at 401, which is more than any row gets.
 fn bounded(quotient: u128) -> u32
     ensures { result ≡ min 401 quotient }
 {
