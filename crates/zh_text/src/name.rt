@@ -30,7 +30,7 @@ impl fmt::Display for Name {
     }
 }
 
-/// Appends a name, which has at most 36 bytes.
+/// Appends a name, whose words must have at most 14 bytes: at most 36 bytes in all.
 pub fn push_name<const N: usize>(text: &mut ArrayVec<u8, N>, name: Name)
     requires words { HasShortWords name }
     requires room { length text.old.items + 46 ≤ N }

@@ -50,7 +50,7 @@ pub fn millionths_text(millionths: u128) -> DecimalText
     text
 }
 
-/// Whether the word has at most one byte or begins with 1 to 9. `parse` alone also accepts a sign and leading zeros.
+/// Whether the word has at most one byte or begins with 1 to 9. On its own, `parse` also accepts a sign and leading zeros.
 fn is_plain(word: &[u8]) -> bool
     ensures { IsTrue result ↔ (1 < length word.now → IsInRange 49 57 (slice_index word.now 0)) }
 {

@@ -59,7 +59,8 @@ fn byte_shown(named: ShownNames, byte: &[u8]) -> &[u8]
     }
 }
 
-/// How the byte at this place of a text is shown. A byte order mark or a two-byte control character is shown at its first byte.
+/// How the byte at this place of a text is shown. A byte order mark or a two-byte control character is shown at its first byte,
+/// and its later bytes give nothing.
 pub fn shown_at(named: ShownNames, text: &[u8], place: usize) -> &[u8]
     requires { place < length text.now }
     ensures shown { result.now ≡ shown_at named text.now (place + 1) }
@@ -74,7 +75,7 @@ pub fn shown_at(named: ShownNames, text: &[u8], place: usize) -> &[u8]
     }
 }
 
-/// Appends a text in the form in which it is shown.
+/// Appends a text as it is shown, byte by byte (`shown_at`).
 pub fn push_shown(text: &mut Vec<u8>, named: ShownNames, shown: &[u8]) -> Result<(), AllocError>
     ensures { OnOk result (text.new.items ≡ text.old.items ++ shown_text named shown.now) }
 {
