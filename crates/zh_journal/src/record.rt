@@ -86,7 +86,7 @@ fn read_payload<D: Disk>(
 }
 
 /// Reads the payload of the record at this place, if there are `left` pages from there on. Returns its length, or
-/// 0 if there is no such record.
+/// 0 if no record that fits into these pages begins there.
 pub(crate) fn read_record<D: Disk>(
     disk: &mut D,
     at: u64,
