@@ -71,7 +71,8 @@ fn newer(first: u64, second: u64) -> Option<InUse>
     })
 }
 
-/// The slot in use: the one with an open gate or, if both are open, the newer one. `None` if there is no such slot.
+/// The slot in use: the one with an open gate or, if both are open, the newer one. `None` if no gate is open, or if both are open
+/// with equal generations.
 fn in_use(first: Option<u64>, second: Option<u64>) -> Option<InUse>
     ensures { (c : List ℕ) → HasHead First first c → HasHead Second second c → IsFound result c }
 {
@@ -88,7 +89,7 @@ fn in_use(first: Option<u64>, second: Option<u64>) -> Option<InUse>
     })
 }
 
-/// Finds the slot in use. `None` if there is none.
+/// Reads the heads of both slots and finds the slot in use, as `in_use` does.
 pub(crate) fn find_slot<D: Disk>(disk: &mut D) -> Result<Option<InUse>, DiskFault>
     ensures call { Call is_err (Asks (λ bytes answer. IfOk answer (λ found. IsFound found bytes)))
         (D.history disk.old) (D.history disk.new) result }
