@@ -81,7 +81,7 @@ pub record IsUnfit {D : Type 0} (is_clean : D → Bool) (failures : D → ℕ) (
   pub after : D
   pub cause : IsTrue (is_clean after) → IsTrue (is_clean before) × ((0 < failures after) ⊎ (length (seen before) ≡ disk_length → ⊥))
 
--- the fault for such a file
+-- the fault for a file that is not fit to be a disk's
 abbrev pub IsUnstarted : Type 0 → FileFault → Type 0
 IsUnstarted Unfit faults.Memory = Unit {0}
 IsUnstarted Unfit (faults.Device cause) = IsSilent cause × Unfit

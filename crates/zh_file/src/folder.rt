@@ -52,7 +52,7 @@ pub trait Folder {
     /// How often a text was asked for.
     ghost texts: { Self → ℕ };
 
-    /// Looks at what is at this path. Fails if nothing is there. An error that says what is there, or that nothing is, is right.
+    /// Looks at what is at this path. Fails if nothing is there. If an error says what is there, or that nothing is, this is true.
     fn kind(&mut self, path: &str) -> io::Result<Found>
         ensures rest { LeavesRest disk_at left texts self.old self.new }
         ensures noted { failed self.new ≡ noted_at path.now asked_with result (failed self.old) }

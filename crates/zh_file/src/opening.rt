@@ -47,7 +47,7 @@ pub fn open<F: Folder>(
 /// Opens the file at this path as [`open`] does. If there is none, makes one of zeros, for its owner
 /// alone.
 ///
-/// An empty file is taken for one that such a call made before it was stopped, and is filled.
+/// An empty file is taken for one that an earlier call of this function made before it was stopped, and is filled.
 pub fn open_or_make<F: Folder>(
     folder: &mut F,
     right: F::Right,

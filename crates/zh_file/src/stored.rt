@@ -61,6 +61,7 @@ impl<D: KnownFile> Stored<D> {
 }
 
 /// The answer of a call of the file.
+/// An error becomes `Device`, whatever its kind.
 fn reported(done: io::Result<()>) -> Result<(), DiskFault>
     ensures { is_ok result ≡ is_ok done }
 {

@@ -22,7 +22,7 @@ pub struct Locked<D: File> {
     failed: Past<ErrorKind>,
 }
 
-/// Notes a call of a file if it failed.
+/// Notes the kind of the error of a call of a file, if it failed.
 fn note<T>(failed: &mut Past<ErrorKind>, done: &io::Result<T>)
     ensures { items failed.new ≡ kinds_after done.now (items failed.old) }
 {
