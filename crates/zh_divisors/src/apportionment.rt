@@ -1,4 +1,5 @@
-//! The divisor method with standard rounding (Sainte-Laguë, Webster): seats are given one by one.
+//! The divisor method with standard rounding (Sainte-Laguë, Webster): seats are given one by one. If a weight has s seats, its
+//! next seat is worth the weight over 2 s + 1, and its last seat the weight over 2 s - 1.
 ghost use Rattle.std.specs.Prelude.{◌<◌, ◌≤◌, Any, IfOk, ◌≡◌, ◌+◌, ◌-◌, ◌*◌, ◌^◌, ◌↔◌, IsTrue, length, slice_index, sum};
 ghost use Rattle.zh_divisors.specs.Claims.{TellClaims};
 ghost use Rattle.zh_divisors.specs.Fit.{IsFit, NextAgainstLast};
@@ -14,7 +15,7 @@ use std::alloc::{AllocError, Global};
 /// The seats of a house in proportion to weights, rounded to the nearest whole number (GPR sections 88 and 103).
 ///
 /// The divisor is given as a fraction that is not reduced: the sum of two weights over the sum of their seats.
-/// These are the first weight whose last seat is worth least, and the first weight whose next seat would be worth
+/// The two are the first weight whose last seat is worth least, and the first weight whose next seat would be worth
 /// most. `Tied` is returned if no divisor gives seats that add up to the house without a quotient on a half.
 /// `Memory` can be returned in place of any other answer.
 pub fn apportion(alloc: Global, weights: &Weights, house: u32) -> Result<Shares, ShareFault>
@@ -142,7 +143,8 @@ fn least_last(weights: &[u64], seats: &[u32]) -> usize
     least
 }
 
-/// For each weight, whether it has the same claim as another, so that the seats are tied between them.
+/// For each weight, whether it has the same claim as another, so that a seat is tied between them: in some fit, the next seat of
+/// one is worth as much as the last seat of the other.
 pub fn same_claims(alloc: Global, weights: &Weights, house: u32) -> Result<Vec<bool>, AllocError>
     requires at_least_one { 1 ≤ house }
     requires at_most_400 { house ≤ 400 }

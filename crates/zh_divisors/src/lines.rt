@@ -1,4 +1,5 @@
-//! The divisor of a line of a matrix, by the divisor method with standard rounding: the line's seats are given one by one.
+//! The divisor of a line of a matrix, by the divisor method with standard rounding: the line's seats are given one by one. The
+//! next seat of a cell is worth its votes over `next_signpost`, and its last seat its votes over `last_signpost`.
 ghost use Rattle.std.specs.Prelude.{◌≡◌, ◌+◌, ◌-◌, ◌*◌, ◌/◌, ◌^◌, ◌≤◌, length, slice_index, ◌<◌, ◌↔◌, IsTrue};
 ghost use Rattle.zh_divisors.specs.Line.{IsMatrixLine, clamped, line_divisor};
 ghost use Rattle.zh_divisors.specs.LineSeats.{AreGiven, IsLastCell, IsNextCell, IsSmallLine, last_signpost, next_signpost};
@@ -113,7 +114,7 @@ pub(crate) fn next_cell(votes: &[u64], others: &[u64], seats: &[u32]) -> usize
     next
 }
 
-/// Gives the seats one by one, each to a cell to which it is worth most. Returns the cell that got the last seat.
+/// Gives `target` seats one by one, each to a cell to which it is worth most. Returns the cell that got the last seat.
 pub(crate) fn give_one_by_one(
     votes: &[u64],
     others: &[u64],
