@@ -1,4 +1,4 @@
-//! What is true of all matrices that can be drawn by lot.
+//! What is true of all matrices that may be drawn by lot.
 ghost use Rattle.std.specs.Prelude.{ℕ, ◌<◌, ◌↔◌, List};
 ghost use Rattle.zh_matrices.specs.Divisors.{Divisors};
 ghost use Rattle.zh_matrices.specs.Lots.{DrawsDiffer, HasRange};

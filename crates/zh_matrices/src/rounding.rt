@@ -65,7 +65,8 @@ pub(crate) fn product(row_divisor: u64, column_divisor: u64) -> u128
     u128::from(row_divisor) * u128::from(column_divisor)
 }
 
-/// Whether the votes of a cell over the product of its two divisors, which are in millionths, round to its seats.
+/// Whether the votes of a cell over the product of its two divisors, which are in millionths, round to its seats by this kind of
+/// rounding.
 pub(crate) fn rounds_by(rounding: Rounding, votes: u64, product: u128, seats: u32) -> bool
     requires votes { votes ≤ 10 ^ 14 }
     requires product { product ≤ 10 ^ 30 }
