@@ -40,7 +40,7 @@ pub record StandsInBox (q : Question) (l : Logs) (seats : List ℕ) (bits : ℕ)
   pub box : IsBox bits bounds
   pub still : IsStill (priced q l seats) bounds p
 
--- the divisors are the antilogarithms that belong to such potentials
+-- the divisors are the antilogarithms that belong to the potentials at which the sweep ends in this box
 pub record AreInBox (q : Question) (l : Logs) (seats : List ℕ) (bits : ℕ) (of_rows of_columns : List ℕ) : Type 0 where
   pub potentials : Potentials
   pub stands : StandsInBox q l seats bits potentials

@@ -11,7 +11,7 @@ pub record AreRowFloats (n : ℕ) (potentials : List ℕ) (divisors : List Float
 pub record AreColumnFloats (n : ℕ) (potentials : List ℕ) (divisors : List Floating) : Type 0 where
   pub logs : (g : ℕ) → g < n → IsLog 1 2 (value_of (float_at divisors g)) (31 * log_unit + (2 ^ 45 + slice_index potentials g))
 
--- potentials that are small enough for such divisors
+-- potentials that are small enough for floating-point divisors
 pub record Fit (m n : ℕ) (p : Potentials) : Type 0 where
   pub rows : (d : ℕ) → d < m → slice_index p.of_rows d ≤ 2 ^ 60 + 2 ^ 45
   pub columns : (g : ℕ) → g < n → slice_index p.of_columns g ≤ 2 ^ 44

@@ -30,7 +30,7 @@ pub record Cells : Type 0 where
 abbrev pub cells : Question → List ℕ → Cells
 cells q seats = record { rows = q.rows; columns = q.columns; votes = cell q.columns q.votes; seats = cell q.columns seats }
 
--- such cells with the price of the next seat and of the last seat of each
+-- cells, and the price of the next seat and of the last seat of each
 pub record Priced : Type 0 where
   pub cells : Cells
   pub next : ℕ → ℕ → ℕ

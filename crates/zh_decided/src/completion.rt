@@ -102,7 +102,7 @@ struct Handover {
     column: usize,
 }
 
-/// Adds a seat to a cell.
+/// Adds a seat to a cell, which must be below its upper bound.
 fn give(bounds: &CellBounds<'_>, seats: &mut [u32], row: usize, column: usize)
     requires seats { length seats.old ≡ bounds.now.question.now.rows * bounds.now.question.now.columns }
     requires row { row < bounds.now.question.now.rows }
@@ -116,7 +116,7 @@ fn give(bounds: &CellBounds<'_>, seats: &mut [u32], row: usize, column: usize)
     seats[place] += 1;
 }
 
-/// Removes a seat from a cell.
+/// Removes a seat from a cell, which must be above its lower bound.
 pub(crate) fn take(bounds: &CellBounds<'_>, seats: &mut [u32], row: usize, column: usize)
     requires seats { length seats.old ≡ bounds.now.question.now.rows * bounds.now.question.now.columns }
     requires row { row < bounds.now.question.now.rows }
@@ -127,7 +127,7 @@ pub(crate) fn take(bounds: &CellBounds<'_>, seats: &mut [u32], row: usize, colum
     seats[row * bounds.question.columns + column] -= 1;
 }
 
-/// Places a seat in a row and a column that are both short of one.
+/// Places a seat in a cell whose row and column are both short of one.
 pub(crate) fn place(bounds: &CellBounds<'_>, seats: &mut [u32], row: usize, column: usize)
     requires placed { words.ArePlaced (asked_in bounds.now) (bounds_of bounds.now) seats.old }
     requires row { row < bounds.now.question.now.rows }

@@ -12,7 +12,7 @@ use crate::cells::{CELLS, CellBounds, copy_cells, no_seats};
 use crate::completion::{complete, place, take};
 use zh_matrices::Question;
 
-/// The first place in which two lists differ.
+/// The first place in which two lists differ. `None` if they are equal.
 fn first_place(seats: &[u32], others: &[u32]) -> Option<usize>
     requires { length seats.now ≡ length others.now }
     ensures first { IfSome result (IsFirstPlaceApart seats.now others.now) }
@@ -46,7 +46,7 @@ pub(crate) fn first_difference(
     }
 }
 
-/// Writes to `others` a matrix within the bounds that has fewer seats in a place. False if there is none.
+/// Writes to `others` a matrix within the bounds that has fewer seats in a place than `seats` has. False if there is none.
 fn fewer_at(bounds: &CellBounds<'_>, seats: &[u32], place: usize, others: &mut [u32]) -> bool
     requires within { IsWithin (asked_in bounds.now) (bounds_of bounds.now) seats.now }
     requires place { place < bounds.now.question.now.rows * bounds.now.question.now.columns }
@@ -71,7 +71,7 @@ fn fewer_at(bounds: &CellBounds<'_>, seats: &[u32], place: usize, others: &mut [
     complete(&lowered, others).is_ok()
 }
 
-/// Writes to `others` a matrix within the bounds that has more seats in a place. False if there is none.
+/// Writes to `others` a matrix within the bounds that has more seats in a place than `seats` has. False if there is none.
 fn more_at(bounds: &CellBounds<'_>, seats: &[u32], place: usize, others: &mut [u32]) -> bool
     requires within { IsWithin (asked_in bounds.now) (bounds_of bounds.now) seats.now }
     requires place { place < bounds.now.question.now.rows * bounds.now.question.now.columns }
@@ -100,8 +100,8 @@ fn more_at(bounds: &CellBounds<'_>, seats: &[u32], place: usize, others: &mut [u
     complete(&raised, others).is_ok()
 }
 
-/// Writes to `others` a matrix within the bounds that has a different number of seats in a place. False if all have the same
-/// number there.
+/// Writes to `others` a matrix within the bounds that has a different number of seats in a place. False if all matrices within
+/// the bounds have the same number there.
 pub fn differ_at(bounds: &CellBounds<'_>, seats: &[u32], place: usize, others: &mut [u32]) -> bool
     requires within { IsWithin (asked_in bounds.now) (bounds_of bounds.now) seats.now }
     requires place { place < bounds.now.question.now.rows * bounds.now.question.now.columns }
@@ -145,7 +145,8 @@ fn other_row(bounds: &CellBounds<'_>, seats: &[u32], row: usize, column: usize) 
 }
 
 /// Adds a seat to a cell of a matrix within the bounds and removes one elsewhere in its row and one elsewhere in its column.
-/// False if one of the two has no seat to give up. Then no matrix within the bounds has more seats in the cell.
+/// False if no other cell of the row, or of the column, can give up a seat. Then no matrix within the bounds has more seats in
+/// the cell.
 pub(crate) fn raise(bounds: &CellBounds<'_>, seats: &mut [u32], row: usize, column: usize) -> bool
     requires within { IsWithin (asked_in bounds.now) (bounds_of bounds.now) seats.old }
     requires row { row < bounds.now.question.now.rows }

@@ -9,7 +9,7 @@ ghost use Rattle.zh_matrices.specs.Fitting.{FitsVotes};
 ghost use Rattle.zh_decided.specs.Impossible.{HasTooFewSeats};
 
 /// If two different matrices nearly follow from the same divisors, then no divisors of any scale give seats with each quotient
-/// clear of every half by the same factor, 1 + 2^-17. Seats that follow weakly also follow nearly. Seats that are clear of
+/// clear of every half by more than the same factor, 1 + 2^-17. Seats that follow weakly also follow nearly. Seats that are clear of
 /// every half follow strictly.
 pub fn near_tie()
     ensures no_clear { (q : Question) (row column : ℕ) → IsNearlyTied q row column →

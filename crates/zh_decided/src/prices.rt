@@ -16,7 +16,7 @@ pub(crate) struct Mark {
 const BASE: u64 = 1 << 60;
 
 /// Logarithms, to any base and in any unit, each at most 2^36: of twice the votes of each cell, row by row, and of the odd
-/// numbers from 1 to 801.
+/// numbers from 1 to 801. Those of the odd numbers must not fall from one number to the next.
 #[derive(Drop)]
 pub struct LogTable<'a> {
     pub of_votes: &'a [u64],

@@ -55,8 +55,8 @@ pub fn sweep(priced: &PricedSeats<'_>, bounds: Bounds) -> Swept
     }
 }
 
-/// Two slacks of next seats, at most 2^36. With `still_at` the sweep ends at these potentials. With `cycle_at`, which is
-/// larger, this is a cycle.
+/// Two slacks of next seats, at most 2^36. With `still_at` the sweep ends at these potentials. `cycle_at` is larger: the seats
+/// that this cycle adds cost less than those that it removes plus `cycle_at` for each step.
 #[derive(Clone, Copy)]
 pub struct Gap {
     pub still_at: u64,

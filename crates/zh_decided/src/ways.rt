@@ -137,7 +137,7 @@ fn open_column(
     None
 }
 
-/// The first row without a way that can take one more seat in a column with a source. Returns the row, the column and the
+/// The first row that has no way yet but can take one more seat in a column with a source. Returns the row, the column and the
 /// source.
 fn next_row(
     bounds: &CellBounds<'_>,

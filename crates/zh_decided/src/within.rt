@@ -12,7 +12,7 @@ use crate::cells::{CellBounds, copy_cells};
 use crate::completion::{complete, fill_cells};
 use zh_matrices::{Question, column_sum, row_sum};
 
-/// Whether no cell is above its upper bound.
+/// Whether no cell has more seats than its upper bound.
 fn are_at_most(bounds: &CellBounds<'_>, seats: &[u32]) -> bool
     requires { length seats.now ≡ bounds.now.question.now.rows * bounds.now.question.now.columns }
     ensures { IsTrue result ↔ AreAtMost (asked_in bounds.now) bounds.now.most.now seats.now }
