@@ -57,12 +57,12 @@ pub record IsSecondWithin (q : Question) (top : ℕ) (seats : List ℕ) (x : Div
   pub middle : IsMiddle q (top / 1000000) columns x
   pub strict : IsStrict q x seats
 
--- with columns up to 1,000; or up to 1,000,000, only if there is no such middle up to 1,000 for the same seats
+-- x is the middle for these seats with columns up to 1,000 or, only if there is none, with columns up to 1,000,000
 abbrev pub IsSecondFor : Question → List ℕ → Divisors → Type 0
 IsSecondFor q seats x = IsSecondWithin q (10 ^ 9) seats x
     ⊎ (((y : Divisors) → ¬ IsSecondWithin q (10 ^ 9) seats y) × IsSecondWithin q (10 ^ 12) seats x)
 
--- these seats have no such middle
+-- no divisors are the middle for these seats
 abbrev pub HaveNoSecond : Question → List ℕ → Type 0
 HaveNoSecond q seats = (x : Divisors) → ¬ IsSecondFor q seats x
 

@@ -161,7 +161,7 @@ fn rounds(question: &Question<'_>, state: &mut SearchState, room: &mut SearchRoo
 }
 
 /// The search. It starts with all columns at 1. `None` if no state of it gives seats or is tied. Otherwise `state` is the first
-/// such state, and `room` contains the seats that were found, or both matrices of the tie.
+/// state that ends the search, and `room` contains the seats that were found, or both matrices of the tie.
 pub fn search(
     question: &Question<'_>,
     state: &mut SearchState,

@@ -146,7 +146,7 @@ pub fn find_or_reason(
 /// that gives seats. If none does, they are the middle of those that give the seats, or else those of the decision, made easier
 /// to read if possible.
 ///
-/// `Tied` is returned if the search reaches a state from which two different matrices follow. `Exhausted` is returned if no
+/// `Tied` is returned if the search reaches a state from which two different matrices follow weakly. `Exhausted` is returned if no
 /// state gives seats or is tied, and the decision does not give seats either; or if the row totals and the column totals have
 /// different sums. `Memory` can be returned in place of every answer but `NoVotes`.
 pub fn find(

@@ -20,7 +20,7 @@ use zh_matrices::{Proposal, Question, Rounding, follows};
 pub enum Ending {
     /// The seats in the room follow strictly from the divisors of the state.
     Found,
-    /// Two different matrices follow from the divisors of the state. The first quotient on a half is in this row and this
+    /// Two different matrices follow weakly from the divisors of the state. The first quotient on a half is in this row and this
     /// column, both counted from 1.
     Tied(u32, u32),
 }
@@ -104,7 +104,7 @@ fn find_both(bounds: &CellBounds<'_>, seats: &mut [u32], others: &mut [u32]) -> 
     find_other(bounds, seats, others)
 }
 
-/// Leaves in the room two different matrices that follow from the divisors of a state. False if there are none.
+/// Leaves in the room two different matrices that follow weakly from the divisors of a state. False if there are none.
 pub(crate) fn find_two_ways(
     question: &Question<'_>,
     state: &SearchState,

@@ -40,7 +40,7 @@ fn is_unsettled(quotients: &[Quotient], places: LinePlaces, total: u32) -> bool
     sum != u128::from(total) || holds_half
 }
 
-/// Sets each row divisor by the rule of a line, from these column divisors.
+/// Sets each row divisor by the rule of a line (`line`), given these column divisors.
 pub fn middle_rows(question: &Question<'_>, of_columns: &[u64], of_rows: &mut [u64])
     requires proper { IsProper (asked question.now) }
     requires rows { length of_rows.old ≡ question.now.rows }
@@ -59,7 +59,7 @@ pub fn middle_rows(question: &Question<'_>, of_columns: &[u64], of_rows: &mut [u
     }
 }
 
-/// Sets each column divisor by the rule of a line, from these row divisors.
+/// Sets each column divisor by the rule of a line (`line`), given these row divisors.
 pub fn middle_columns(question: &Question<'_>, of_rows: &[u64], of_columns: &mut [u64])
     requires proper { IsProper (asked question.now) }
     requires rows { AreWithin question.now.rows (10 ^ 18) of_rows.now }

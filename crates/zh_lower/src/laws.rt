@@ -10,8 +10,8 @@ ghost use Rattle.zh_lower.specs.Outcomes.{IsProper};
 ghost use Rattle.zh_lower.specs.SeatBounds.{seat_bounds};
 
 /// If some divisors give seats with no quotient on a half, no divisors of any scale give other seats, even with halves rounded
-/// either way. If two different matrices follow from the same divisors, no divisors give seats without a half. Of the divisors
-/// that are shown, only one set gives seats.
+/// either way. If two different matrices follow from the same divisors, no divisors give seats without a quotient on a half. Of
+/// the divisors that are shown, only one set gives seats.
 pub fn one_answer()
     ensures one { (q : Question) (divisors other_divisors : Divisors) (seats other_seats : List ℕ) →
         IsStrict q divisors seats → IsWeak q other_divisors other_seats → other_seats ≡ seats }

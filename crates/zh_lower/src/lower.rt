@@ -82,8 +82,8 @@ pub enum LowerFault {
     Memory,
     /// This row is the first one without a vote.
     NoVotes(u32),
-    /// The search reached a tie: two different matrices follow from the same divisors. The first quotient on a half is in this
-    /// row and this column.
+    /// The search reached a tie: two different matrices follow weakly from the same divisors. The first quotient on a half is in
+    /// this row and this column.
     Tied(u32, u32),
     /// The row totals and the column totals have different sums, or the search found neither seats nor a tie and the decision
     /// gave no seats that can be shown.

@@ -1,4 +1,4 @@
-//! A tie: the divisors from which two matrices follow, and the seats that the lot decides.
+//! A tie: the divisors from which two different matrices follow weakly, and the seats that the lot decides.
 ghost use Rattle.std.specs.Bool.{OnFalse, OnTrue};
 ghost use Rattle.std.specs.Prelude.{◌≡◌, ℕ, ◌*◌, ◌<◌, IfOk, length, slice_index, min};
 ghost use Rattle.zh_decided.specs.Bounds.{IsAnotherAt, IsFixedAt, IsWithin, asked_in, bounds_of};
@@ -15,7 +15,7 @@ use std::alloc::{AllocError, Global};
 use zh_decided::{CellBounds, differ_at};
 use zh_matrices::Question;
 
-/// A tie that the search reached: its divisors, and one of the matrices that follow from them.
+/// A tie that the search reached: its divisors, and one of the matrices that follow weakly from them.
 #[derive(Drop)]
 pub struct Tie {
     /// The row and the column of the first quotient on a half, counted from 1.
@@ -32,7 +32,7 @@ pub struct Ranges {
     pub most: Vec<u32>,
 }
 
-/// Whether some matrix within the bounds has a different number of seats in a cell.
+/// Whether some matrix within the bounds has a different number of seats in a cell. If so, one is written to `others`.
 fn may_change(bounds: &CellBounds<'_>, seats: &[u32], place: usize, others: &mut [u32]) -> bool
     requires within { IsWithin (asked_in bounds.now) (bounds_of bounds.now) seats.now }
     requires place { place < bounds.now.question.now.rows * bounds.now.question.now.columns }
