@@ -55,7 +55,8 @@ pub fn line(votes: &[u64], others: &[u64], target: u32, most: u64) -> u64
     hold((least + greatest) / 2, most)
 }
 
-/// The doubled signpost of a cell's next seat, 2 s + 1, times the divisor, in millionths, of the line that crosses there.
+/// The doubled signpost of a cell's next seat (2 s + 1, if it has s seats), times the divisor, in millionths, of the line that
+/// crosses there.
 pub(crate) fn next_signpost(others: &[u64], seats: &[u32], cell: usize) -> u128
     requires other { cell < length others.now }
     requires seat { cell < length seats.now }
@@ -67,7 +68,8 @@ pub(crate) fn next_signpost(others: &[u64], seats: &[u32], cell: usize) -> u128
     u128::from(others[cell]) * (2 * u128::from(seats[cell]) + 1)
 }
 
-/// The doubled signpost of a cell's last seat, 2 s - 1, times the divisor, in millionths, of the line that crosses there.
+/// The doubled signpost of a cell's last seat (2 s - 1, if it has s seats), times the divisor, in millionths, of the line that
+/// crosses there.
 pub(crate) fn last_signpost(others: &[u64], seats: &[u32], cell: usize) -> u128
     requires other { cell < length others.now }
     requires seat { cell < length seats.now }
