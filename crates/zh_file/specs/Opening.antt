@@ -23,8 +23,9 @@ IsNoFile standing = (standing ≡ folder) ⊎ (standing ≡ other)
 abbrev pub HasFailed : {D : Type 0} → (D → Bool) → (D → ℕ) → Type 0
 HasFailed {D} is_clean failures = (after : D) × (IsTrue (is_clean after) → 0 < failures after)
 
--- Why there is no disk. `IsRefused` says which lengths are refused, and `Failed` that a call of the locked file failed. A cause
--- is right about what was at the path. If the length is wrong, nothing was made or removed.
+-- Why there is no disk, memory aside. `IsRefused` says which lengths are refused, and `Failed` that a call of the locked file
+-- failed. If the length is wrong, nothing was made or removed. If the file is busy, one more lock was refused. A cause is right
+-- about what was at the path.
 abbrev pub IsOpeningCause : (ℕ → Type 0) → Type 0 → List ℕ → Folders → Folders → FileFault → Type 0
 IsOpeningCause IsRefused Failed path old new faults.Memory = Unit {0}
 IsOpeningCause IsRefused Failed path old new (faults.Size n) =

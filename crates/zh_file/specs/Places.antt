@@ -49,7 +49,7 @@ pub record TouchesOnly (path : List ℕ) (old new : Places) : Type 0 where
   pub others : (place : List ℕ) → place ≢ old.leads path → place ≢ companion_of old path
       → new.stands place ≡ old.stands place
 
--- afterwards something is known if and only if it was before; and if it is, `Does` holds of what was known and what is
+-- afterwards something is known if and only if something was known before; and then `Does` holds of what was known and what is
 abbrev pub IfKnown : {A : Type 0} → (A → A → Type 0) → Option A → Option A → Type 0
 IfKnown Does None new = new ≡ None
 IfKnown Does (Some old) None = ⊥
