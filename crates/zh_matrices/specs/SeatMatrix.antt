@@ -37,11 +37,11 @@ pub record Follows (rounding : ℕ → ℕ → ℕ → Type 0) (q : Question) (d
   pub column_divisors : ArePositive q.columns divisors.of_columns
   pub each_rounds : EachRounds rounding q divisors seats
 
--- they follow, and no quotient is on a half
+-- the seats follow from the divisors, and no quotient is on a half
 abbrev pub IsStrict : Question → Divisors → List ℕ → Type 0
 IsStrict = Follows Rounds
 
--- they follow, halves rounded either way
+-- the seats follow from the divisors, halves rounded either way
 abbrev pub IsWeak : Question → Divisors → List ℕ → Type 0
 IsWeak = Follows MayRound
 
