@@ -35,7 +35,7 @@ pub record AreTwoWays (q : Question) (x : Divisors) (seats others : List ℕ) : 
   pub other_way : IsWeak q x others
   pub differ : seats ≢ others
 
--- two different matrices follow from these divisors, and the first quotient on a half is in row d and column g
+-- two different matrices follow weakly from these divisors, and the first quotient on a half is in row d and column g
 pub record IsTiedAt (q : Question) (x : Divisors) (d g : ℕ) : Type 0 where
   pub seats : List ℕ
   pub others : List ℕ
@@ -72,7 +72,8 @@ pub record ComesToTie (q : Question) (d g : ℕ) : Type 0 where
   pub reached : IsReached q divisors
   pub tied : IsTiedAt q divisors d g
 
--- what an end with these divisors means: these seats follow strictly, or both of these matrices follow
+-- what an end with these divisors means: these seats follow strictly; or both of these matrices follow weakly, they differ, and the
+-- first quotient on a half is in row d and column g
 abbrev pub IsEnding : Question → Divisors → List ℕ → List ℕ → Ending → Type 0
 IsEnding q x seats others Found = IsStrict q x seats
 IsEnding q x seats others (Tied d g) = AreTwoWays q x seats others × IsFirstHalf q x d g

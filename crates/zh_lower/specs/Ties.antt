@@ -9,7 +9,7 @@ use Rattle.zh_lower.specs.Outcomes.{IsProper, IsReached, IsTiedAt}
 use Rattle.zh_lower.specs.SearchRooms.{divisors_of}
 use Rattle.zh_lower.specs.declared.tie.Tie.{Tie}
 
--- the search reaches these divisors, which are tied, and the seats follow from them
+-- the search reaches these divisors, which are tied, and the seats follow weakly from them
 pub record IsLowerTie (q : Question) (tie : Tie) : Type 0 where
   pub proper : IsProper q
   pub limits : AreWithinLimits q tie.divisors.of_rows.items tie.divisors.of_columns.items
