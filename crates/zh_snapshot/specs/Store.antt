@@ -63,8 +63,8 @@ StoreSwitches s payload old new =
     (x : Content) (j : ℕ) → IsFramed x j old → Fits s x j old
     → IsClean (with_snapshot x payload) 0 new × Fits (switched s) (with_snapshot x payload) 0 new
 
--- an image that fits becomes that, or it keeps its content and is clean if it was; nothing outside the other slot changes,
--- whatever the image
+-- an image that fits becomes what `StoreSwitches` says, or it keeps its content and is clean if it was; nothing outside the other
+-- slot changes, whatever the image
 pub record StoreSwitchesOrNot (s : State) (payload old new : List ℕ) : Type 0 where
   pub around : SameOutside (slot_at (other s.slot)) slot_length old new
   pub framed : (x : Content) (j : ℕ) → IsFramed x j old → Fits s x j old
