@@ -41,7 +41,7 @@ impl<R> MemoryFolder<R> {
         }
     }
 
-    /// Notes a call at this path, other than a lock, if it failed. Returns its result.
+    /// Notes and counts a call at this path, other than a lock, if it failed. Returns its result.
     fn note<T>(&mut self, path: &str, done: io::Result<T>) -> io::Result<T>
         ensures result { result ≡ done }
         ensures rest { self.new ≡ record self.old { failed = self.new.failed; notes = self.new.notes } }
@@ -150,7 +150,7 @@ impl<R> MemoryFolder<R> {
         }
     }
 
-    /// Notes a lock at this path if it failed or was refused. Returns its result.
+    /// Notes a lock at this path if it failed or was refused, and counts it as the one or the other. Returns its result.
     fn note_lock<T>(&mut self, path: &str, done: Result<T, OpenError>) -> Result<T, OpenError>
         ensures result { result ≡ done }
         ensures rest { self.new
