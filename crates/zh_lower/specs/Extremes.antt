@@ -37,8 +37,8 @@ abbrev pub IsAbove : Question → List ℕ → List ℕ → ℕ → ℕ → Type
 IsAbove q seats of_rows g divisor = (d : ℕ) → d < q.rows → 1 ≤ cell q.columns seats d g →
     (2 * cell q.columns seats d g - 1) * (slice_index of_rows d * divisor) < 2 * (cell q.columns q.votes d g * 10 ^ 12)
 
--- the least divisor of row d, from the one before on, for which IsBelow holds; and the greatest of column g, up to the one
--- before, for which IsAbove holds
+-- `after` is the least divisor of row d, from `before` on, for which IsBelow holds; and the greatest of column g, up to `before`,
+-- for which IsAbove holds
 pub record IsLeastRow (q : Question) (seats of_columns : List ℕ) (d before after : ℕ) : Type 0 where
   pub at_least : before ≤ after
   pub below : IsBelow q seats of_columns d after

@@ -43,7 +43,8 @@ fn may_change(bounds: &CellBounds<'_>, seats: &[u32], place: usize, others: &mut
     bounds.least[place] < bounds.most[place] && differ_at(bounds, seats, place, others)
 }
 
-/// The fewest and the most seats of a cell: its two bounds, or the one number that all matrices have there.
+/// The fewest and the most seats of a cell over all matrices that may be drawn: its two bounds, or the one number that all of
+/// them have there. Overwrites `others`.
 fn range_at(bounds: &CellBounds<'_>, seats: &[u32], place: usize, others: &mut [u32]) -> (u32, u32)
     requires enclose { EncloseDraws (asked_in bounds.now) (bounds_of bounds.now) }
     requires within { IsWithin (asked_in bounds.now) (bounds_of bounds.now) seats.now }
