@@ -30,8 +30,8 @@ group_spelling x = to_be_bytes w32 (mask_of x.stands) ++ name_spelling x.name
 abbrev pub quorum_spelling : Option ℕ → List ℕ
 quorum_spelling quorum = option_map_or (to_be_bytes w16) quorum []
 
--- the house in two bytes; the constituencies, the municipalities and the groups, each kind with their number (in two bytes for
--- municipalities, in one for the others) and then each of them; and the canton-wide quorum, if there is one
+-- the house in two bytes; the number of constituencies in one byte, and each of them; the number of municipalities in two bytes,
+-- and each of them; the number of groups in one byte, and each of them; and the canton-wide quorum, if there is one
 abbrev pub setup_spelling : Canton → List ℕ
 setup_spelling canton =
     to_be_bytes w16 canton.house

@@ -46,7 +46,7 @@ pub struct Draft {
     pub constituencies: Vec<Constituency>,
     pub municipalities: Vec<Municipality>,
     pub groups: Vec<Group>,
-    /// In per mille of the votes of the whole canton, if there is such a quorum.
+    /// The canton-wide quorum, if there is one, in per mille of the votes of the whole canton.
     pub canton_quorum: Option<u32>,
 }
 
