@@ -21,7 +21,7 @@ unfoldable pub zeros : ℕ → List ℕ
 zeros zero = []
 zeros (suc n) = 0 ∷ zeros n
 
--- what is held in the first municipalities, this many, one after the other, and in each for lists 1 to 32
+-- what is held in each of this many municipalities, in order, and there for each of the lists 1 to 32
 abbrev pub table_of : Tally → ℕ → List (Option Entry)
 table_of tally municipalities = flat_map (λ municipality. map (held tally municipality) (numbers 1 32)) (numbers 1 municipalities)
 

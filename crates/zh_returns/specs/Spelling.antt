@@ -24,7 +24,7 @@ command_spelling format (commands.Close municipality) = 3 ∷ to_be_bytes w16 mu
 command_spelling format (commands.Reopen municipality) = 4 ∷ to_be_bytes w16 municipality
 command_spelling format (commands.Batch desk rows) = head format 5 8 desk ++ (to_be_bytes w16 (length rows) ++ flat_map row_spelling rows)
 
--- the greatest number of a desk in a format: 0 in format One, which has no desks
+-- the greatest desk number in a format: 0 in format One, which has no desks
 abbrev pub last_desk : Format → ℕ
 last_desk One = 0
 last_desk Two = 8

@@ -57,7 +57,7 @@ changed tally command = record {
   accepted = tally.accepted + 1;
 }
 
--- the count after a command with this verdict: the first one if the command is accepted, and otherwise the second one
+-- the count after a command with this verdict: the first of the two counts if it is accepted, and otherwise the second
 abbrev pub on_verdict : Verdict → Tally → Tally → Tally
 on_verdict Accept new old = new
 on_verdict Same new old = old

@@ -11,8 +11,8 @@ pub enum Command<'a> {
         desk: u8,
         row: Row,
     },
-    /// The entry of a list in a municipality is withdrawn: the list then has no votes there. It has a replacement number, as a
-    /// return has.
+    /// The entry of a list in a municipality is withdrawn: the list then has no votes there. Like a return, a withdrawal has a
+    /// replacement number.
     Withdraw {
         desk: u8,
         municipality: u32,
@@ -40,7 +40,7 @@ pub enum Format {
     Two,
 }
 
-/// The greatest number of a desk that a command in format Two can have.
+/// The greatest desk number that a command in format Two can have.
 pub const LAST_DESK: u8 = 8;
 
 /// The first byte of a return in format One.

@@ -71,7 +71,7 @@ impl Origin {
     }
 }
 
-/// The greatest number of a desk in a format: 0 in format One, which has no desks.
+/// The greatest desk number in a format: 0 in format One, which has no desks.
 fn last_desk(format: Format) -> u8
     ensures { result ≡ last_desk format }
 {

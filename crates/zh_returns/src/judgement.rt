@@ -52,7 +52,7 @@ pub enum Verdict {
     Refused(Reason),
 }
 
-/// The verdict on a content, that is, votes or None for a withdrawn list, with a replacement number, given what is held.
+/// The verdict on a content (votes, or None for a withdrawn list) with a replacement number, given what is held.
 fn against(held: Option<Entry>, number: u32, content: Option<u32>) -> Verdict
     ensures { result ≡ against held number content }
 {
@@ -80,8 +80,9 @@ impl<'s> Count<'s> {
     ///
     /// A withdrawal is judged like a return without votes. The desk makes no difference. Each row of a batch is judged against
     /// this count. If rows are refused, the batch is refused for the reason of the first one; otherwise it is accepted if a row
-    /// is, and `Same` if none is. If the set-up does not have the municipality, a closing and a reopening are refused as
-    /// `Municipality`. Otherwise a closing is `Same` if it is closed, and a reopening is `NotClosed` if it is open.
+    /// is, and `Same` if none is. A closing or a reopening is refused as `Municipality` if the set-up does not have the
+    /// municipality. Otherwise a closing is `Same` if the municipality is already closed, a reopening is refused as `NotClosed`
+    /// if it is open, and both are accepted in the other case.
     pub fn judge(&self, command: &Command<'_>) -> Verdict
         ensures { result ≡ judge self.now command.now }
     {
@@ -150,8 +151,7 @@ impl<'s> Count<'s> {
         self.judge_row(row) == Verdict::Accept
     }
 
-    /// The verdict on a content, that is, votes or None for a withdrawn list, with a replacement number, for a municipality and a
-    /// list.
+    /// The verdict on a content (votes, or None for a withdrawn list) with a replacement number, for a list in a municipality.
     fn judge_content(
         &self,
         municipality: u32,

@@ -16,8 +16,8 @@ use crate::row::Row;
 use crate::rows::Rows;
 
 impl<'s> Count<'s> {
-    /// Applies an accepted command to the count and adds it to the number of accepted commands. The entries that it puts into
-    /// the count have its origin. Of a batch, only the accepted rows are put.
+    /// Applies an accepted command to the count and adds 1 to the number of accepted commands. The entries that it puts into the
+    /// count have its origin. Of a batch, only the accepted rows are put.
     pub fn apply(&mut self, command: &Command<'_>)
         requires origin { IsOriginOf Format.Two (origin_of command.now) }
         requires accept { judge self.old command.now ≡ Accept }
