@@ -7,11 +7,11 @@ use Rattle.zh_totals.specs.Totals.{AreTotals, VoteTotals}
 abbrev pub votes_from : List ℕ → ℕ → ℕ → ℕ
 votes_from votes first n = sum_to n (λ j. slice_index votes (first + j))
 
--- the votes of the first rows together, this many
+-- the votes of the first `rows` rows together
 abbrev pub votes_of_rows : List ℕ → ℕ → ℕ → ℕ
 votes_of_rows votes columns rows = sum_to rows (λ d. votes_from votes (d * columns) columns)
 
--- the sum of each of the first rows; together they are at most 10^14
+-- the sum of each of the first `rows` rows; together they are at most 10^14
 pub record AreRowSums (votes : List ℕ) (columns rows : ℕ) (sums : List ℕ) : Type 0 where
   pub one_each : length sums ≡ rows
   pub each : (d : ℕ) → d < rows → slice_index sums d ≡ votes_from votes (d * columns) columns

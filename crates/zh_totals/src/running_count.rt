@@ -79,7 +79,7 @@ impl<'s> RunningCount<'s> {
         is_read
     }
 
-    /// Applies an accepted command to the count and its totals, and adds it to the number of accepted commands.
+    /// Applies an accepted command to the count and its totals, and adds 1 to the number of accepted commands.
     pub fn apply(&mut self, command: &Command<'_>)
         requires origin { IsOriginOf Format.Two (origin_of command.now) }
         requires accept { judge self.old command.now ≡ Accept }
