@@ -15,7 +15,7 @@ fails Spent = false
 fails Device = true
 fails Broken = false
 
--- whether the disk can have changed at this outcome
+-- whether the disk can have changed if a command has this outcome
 abbrev pub may_write : Outcome → Bool
 may_write (Stored accepted) = true
 may_write Same = false

@@ -17,7 +17,7 @@ use Rattle.zh_ledger.specs.declared.opening.OpenFault.{OpenFault}
 use Rattle.zh_ledger.specs.declared.opening.OpenFault.TheVariants as faults
 
 -- What keeps a count on a disk, a ledger or an office: its state (the holder), what it is given, and what it answers; the
--- ledger in it, and whether it was just opened; and what is done with what it is given, and added to the log.
+-- ledger in it, and whether it was just opened; and what it does when it is given something, and what this adds to the log.
 pub record Keeper : Type 1 where
   pub Holder : Type 0
   pub Given : Type 0
@@ -65,7 +65,7 @@ pub record StopsWithin (old new : Trail) (c : List ℕ) : Type 0 where
   pub due : GoesOn at new
   pub image : IsImage at.now c
 
--- a call of the open holder begins at this moment and does this, on a disk that is honest until its end
+-- a call of the open holder begins at this moment and does this, on a disk that is honest until the call ends
 pub record Works (K : Keeper) (s : Stretch K) (given : K.Given) (answer : K.Answer) (log : Log) (new : OnDisk K.Holder) : Type 0 where
   pub old : OnDisk K.Holder
   pub holder : s.holder ≡ Some old.holder

@@ -18,7 +18,7 @@ pub record OnDisk (S : Type 0) : Type 0 where
 abbrev pub on_disk : {S : Type 0} → S → History → OnDisk S
 on_disk holder history = record { holder = holder; history = history }
 
--- the same with only the ledger of what is on the disk
+-- the same with only the ledger of the holder
 abbrev pub of_ledger : {S : Type 0} → (S → Ledger) → OnDisk S → OnDisk Ledger
 of_ledger ledger o = on_disk (ledger o.holder) o.history
 

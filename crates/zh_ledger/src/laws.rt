@@ -28,7 +28,7 @@ pub fn submissions()
 ///
 /// Each image of the disk represents the count that the last opening found, after all commands that were accepted since, or
 /// after all but the last, if that one was not acknowledged. So each opening finds, for each stretch between openings, a
-/// prefix of the accepted commands that includes all acknowledged ones, each counted once. An opening has no faults except
+/// prefix of the accepted commands that includes all acknowledged ones, each counted once. The only faults of an opening are
 /// `Memory` and `Device`.
 pub fn nights()
     ensures { Law by_commands }
