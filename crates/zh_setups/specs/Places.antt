@@ -22,7 +22,7 @@ abbrev pub first_failing : List (Key × Bool) → Option Key
 first_failing [] = None
 first_failing (check ∷ checks) = if check.1 then first_failing checks else Some check.0
 
--- the key of a refusal for this unknown key; an empty one if there is none
+-- an unknown key as a refusal names it; if there is none, the name is empty
 abbrev pub other_key : Option (List ℕ) → Key
 other_key found = keys.Other (cut_key (unwrap_or found []))
 
@@ -85,7 +85,7 @@ first_table key kind number [] = None
 first_table key kind number (value ∷ values) =
     option_map_or (λ found. Some (places.Table kind number found)) (key value) (first_table key kind (number + 1) values)
 
--- the first of these tables that has the same name as an earlier one, also as one of those in `before`; the first table has this
+-- the first of these tables that has the same name as an earlier one, or as one of those in `before`; the first table has this
 -- number
 abbrev pub first_namesake : Kind → ℕ → List Data → List Data → Option FaultPlace
 first_namesake kind number before [] = None
@@ -102,7 +102,7 @@ namesake_of fault kind values = None
 abbrev pub values_under : List ℕ → Members → List Data
 values_under key document = unwrap_or (get_member key document >>= values_of) []
 
--- the number of values in the array of constituencies, counted up to 32
+-- the number of values in the array of constituencies, or 32 if there are more
 abbrev pub constituencies_in : Members → ℕ
 constituencies_in document = min (length (values_under (codes "constituency") document)) 32
 

@@ -83,7 +83,7 @@ fn stands_within(group: &Value, constituencies: u32) -> bool
     }
 }
 
-/// The key of a refusal for this unknown key. If there is none, it is empty.
+/// An unknown key as a refusal names it. If there is none, the name is empty.
 fn other_key(found: Option<&str>) -> Key
     ensures { result ≡ other_key (option_copied found.entry) }
 {

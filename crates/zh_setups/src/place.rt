@@ -187,7 +187,7 @@ fn values_under<'a>(document: &'a Table, key: &str) -> &'a [Value]
     }
 }
 
-/// The number of values in the array of constituencies, counted up to 32.
+/// The number of values in the array of constituencies, or 32 if there are more.
 fn constituencies_in(document: &Table) -> u32
     ensures { result ≡ constituencies_in (table_view document.now) }
 {
