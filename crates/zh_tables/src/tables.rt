@@ -227,8 +227,8 @@ fn write_constituencies<W: Write + Drop>(
 }
 
 /// Writes a table of the set-up: a record with the names of its columns, then one for each of its rows, in order.
-/// Returns the writer. On an error, a prefix of the text might have been written. Nothing is written of the constituencies if
-/// they get no seats, or of the returns if the set-up does not have the part that is wanted.
+/// Returns the writer. On an error, a prefix of the text might have been written. The table of the constituencies is not begun
+/// if they get no seats, and that of the returns is not if the set-up does not have the part that is wanted.
 pub fn write_list<W: Write + Drop>(
     alloc: Global,
     setup: &Setup,
