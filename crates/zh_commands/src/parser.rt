@@ -203,7 +203,7 @@ fn next_number(text: &[u8]) -> Option<(u32, &[u8])>
     Some((number, rest))
 }
 
-// The N numbers in a text of N numerals, each after one space. None if it is a different text.
+// The numbers of the numerals, each of which stands after one space.
 pub(crate) fn numbers<const N: usize>(text: &[u8]) -> Option<[u32; N]>
     ensures { MatchOption result
         ((ns : List ℕ) → length ns ≡ N → AreNumerals ns → text.now ≢ numerals ns)
