@@ -1,4 +1,4 @@
--- How each request is said after the desk of its line.
+-- How each request is written after the desk of its line.
 use Rattle.std.specs.Prelude.{ℕ, List, [], ◌∷◌, codes, Option, Some, None}
 use Rattle.zh_returns.specs.declared.row.Row.{Row}
 use Rattle.zh_commands.specs.declared.lines.Request.{Request}

@@ -52,7 +52,7 @@ answer (Refused refusal) = codes "refused " ++ name refusal
 abbrev pub reply_text : ℕ → Reply → List ℕ
 reply_text desk reply = decimal desk ++ 32 ∷ answer reply ++ 10 ∷ []
 
--- the numbers in a refusal, and in a reply, fit their types
+-- the numbers in a refusal and, below, in a reply fit their types
 abbrev pub IsRefusal : Refusal → Type 0
 IsRefusal (refusals.Judged (reasons.NotClosed municipality)) = municipality < 2 ^ 32
 IsRefusal (refusals.Sheet refusal) = IsSheetRefusal refusal

@@ -1,4 +1,4 @@
--- The words of a line, separated by one space each, 32.
+-- The words of a line, each separated from the next by one space, 32.
 use Rattle.std.specs.Prelude.{◌==◌, ◌^◌, ◌<◌, ℕ, List, [], ◌∷◌, ◌++◌, decimal}
 use Rattle.std.specs.List.{AllByRecursion, before_first}
 

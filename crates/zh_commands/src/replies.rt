@@ -36,7 +36,7 @@ pub enum Reply {
 #[derive(Clone, Copy, Debug, PartialEq, Eq)]
 pub enum Refusal {
     /// The line has none of the forms, or more than 120 bytes; or a record to be loaded has a field that is not a
-    /// number.
+    /// numeral, or the replacement number 0.
     Syntax,
     /// The first word is a numeral, but not 1 to 8.
     Desk,
@@ -52,8 +52,8 @@ pub enum Refusal {
     Device,
     /// The disk failed at an earlier line and has to be opened again.
     ReopenDisk,
-    /// The number of accepted commands is at its limit, 2^64 - 1, or a new snapshot is needed and the generation is at
-    /// that limit.
+    /// The number of accepted commands is at its limit, 2^64 - 1; or a new snapshot is needed, because too few pages are left or
+    /// the slot in use has format 1, and the generation is at that limit.
     Spent,
     /// The desk already has a batch.
     BatchOpen,

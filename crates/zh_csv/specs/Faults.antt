@@ -6,7 +6,7 @@ use Rattle.zh_returns.specs.declared.judgement.Reason.TheVariants as reasons
 use Rattle.zh_csv.specs.declared.held_sums.HeldFault.{HeldFault}
 use Rattle.zh_csv.specs.declared.held_sums.HeldFault.TheVariants as of_held
 
--- the same, given the fault; if memory was refused or the reader failed, no record is wrong
+-- what is wrong with the record, given the fault; `None` if memory was refused or the reader failed, since no record is wrong then
 abbrev pub named : LoadFault → Option HeldFault
 named faults.Csv = Some of_held.Csv
 named faults.Syntax = Some of_held.Syntax

@@ -11,13 +11,13 @@ use Rattle.zh_csv.specs.declared.held_sums.HeldSums.{HeldSums}
 use Rattle.zh_csv.specs.declared.held_sums.HeldRow.{HeldRow}
 use Rattle.zh_csv.specs.Rows.{held_fields, as_row, held_key, holds_key, IsHeldRow, AreHeld, sums_of}
 
--- these are rows of this set-up, each with a key of its own; the sums are their number and their total votes
+-- these are rows of this set-up, no two with the same key; the sums are their number and the votes of each list in each constituency
 pub record AreSums (canton : Canton) (rows : List HeldRow) (sums : HeldSums) : Type 0 where
   pub held : AreHeld canton rows
   pub count : sums.rows ≡ length rows
   pub totals : sums.totals ≡ sums_of canton rows
 
--- the text consists of such rows
+-- the text consists of the names of the columns and of rows with these sums
 pub record AreHeldIn (canton : Canton) (text : List ℕ) (sums : HeldSums) : Type 0 where
   pub rows : List HeldRow
   pub records : AreAll text (names ∷ map held_fields rows)
@@ -27,7 +27,7 @@ pub record AreHeldIn (canton : Canton) (text : List ℕ) (sums : HeldSums) : Typ
 abbrev pub row_fault : Canton → List HeldRow → HeldRow → Option LoadFault
 row_fault canton rows row = first_fault (unfit canton (as_row row)) (if holds_key rows (held_key row) then Some Twice else None)
 
--- the rows of an export
+-- the kind of the rows of an export
 abbrev pub holding : Canton → RowKind HeldRow
 holding canton = record { fields = held_fields; IsReadable = IsHeldRow; AreHeld = AreHeld canton; fault_after = row_fault canton }
 

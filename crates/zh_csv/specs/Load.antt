@@ -38,11 +38,11 @@ pub record AreLoaded (canton : Canton) (rows : List Row) : Type 0 where
   pub are_rows : AreRows rows
   pub fit : All (λ row. unfit canton row ≡ None) rows
 
--- the rows of a batch
+-- the kind of the rows of a batch
 abbrev pub loading : Canton → RowKind Row
 loading canton = record { fields = fields; IsReadable = IsReadable; AreHeld = AreLoaded canton; fault_after = fault_after canton }
 
--- what a text loads
+-- what a text loads: these rows, or why it is refused
 abbrev pub Loads : Canton → List ℕ → Result (List Row) LoadFault → Type 0
 Loads canton text (Ok rows) = AreAll text (names ∷ map fields rows) × AreLoaded canton rows
 Loads canton text (Err fault) = Refuses (loading canton) text fault

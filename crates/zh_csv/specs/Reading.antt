@@ -14,7 +14,7 @@ pub record RowKind (X : Type 0) : Type 1 where
   pub fault_after : List X → X → Option LoadFault
 
 module _ {X : Type 0} where
-  -- why a record is not a row: it has no such form, or no readable row has these fields
+  -- why a record is not a row: it does not have four fields or is too long (`Csv`), or no readable row has these fields (`Syntax`)
   abbrev pub IsUnread : (X → Record) → (X → Type 0) → Record → LoadFault → Type 0
   IsUnread fields IsReadable last faults.Csv = may_be_row last ≡ false
   IsUnread fields IsReadable last faults.Syntax = (may_be_row last ≡ true) × ((row : X) → IsReadable row → last ≢ fields row)

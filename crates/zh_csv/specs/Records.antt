@@ -12,7 +12,7 @@ use Rattle.zh_csv.specs.Front.{most_bytes}
 abbrev pub Record : Type 0
 Record = List (List ℕ)
 
--- the first record
+-- the first record of each text: the names of the columns
 abbrev pub names : Record
 names = codes "municipality" ∷ codes "list" ∷ codes "number" ∷ codes "votes" ∷ []
 

@@ -28,7 +28,7 @@ held_entry row = record { origin = no_desk; number = row.number; votes = row.vot
 abbrev pub held_fields : HeldRow → Record
 held_fields row = record_of row.municipality row.list (held_entry row)
 
--- the same as a row of a batch; a withdrawn list has no votes
+-- the same as a row of a batch; a withdrawn list has 0 votes
 abbrev pub as_row : HeldRow → Row
 as_row row = record { municipality = row.municipality; list = row.list; number = row.number; votes = unwrap_or row.votes 0 }
 

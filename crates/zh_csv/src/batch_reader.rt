@@ -33,7 +33,7 @@ pub fn hold(setup: &Setup, batch: &mut Batch, row: Row) -> Result<(), LoadFault>
     Ok(())
 }
 
-/// The rows of a set-up that are being loaded.
+/// The rows that were read so far, and the set-up for which they are read.
 #[derive(Drop)]
 struct Loading<'s> {
     setup: &'s Setup,

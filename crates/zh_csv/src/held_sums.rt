@@ -151,7 +151,7 @@ pub struct HeldRow {
     pub votes: Option<u32>,
 }
 
-/// The votes in a field, which is a numeral or `withdrawn`.
+/// The votes in a field: `Some(None)` if it is `withdrawn`, and `None` if it is neither that nor a numeral.
 fn votes_in(field: &[u8]) -> Option<Option<u32>>
     ensures { MatchOption result
         ((votes : Option ℕ) → IfSome votes (λ n. n < 2 ^ 32) → field.now ≢ votes_field votes)
@@ -199,11 +199,11 @@ pub enum HeldFault {
     Csv,
     /// A field is neither a numeral nor, for votes, `withdrawn`; or a replacement number is 0.
     Syntax,
-    /// The set-up has no such municipality.
+    /// The set-up has no municipality with this number.
     Municipality,
     /// The list does not stand in the constituency of the municipality.
     List,
-    /// More than 1,000,000,000 votes.
+    /// There are more than 1,000,000,000 votes.
     Votes,
     /// An earlier record has the same municipality and list.
     Twice,

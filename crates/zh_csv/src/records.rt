@@ -44,7 +44,8 @@ pub fn reader_of<R: Read>(alloc: Global, text: R) -> Reader<FrontReader<R>>
 fn fault_by(error: &Error) -> ReadFault {
     match error.kind() {
         ErrorKind::OutOfMemory => ReadFault::Memory,
-        // If records can have any number of fields, no other error is left than that of the underlying reader.
+        // Records can have any number of fields, so the other errors should be those of the underlying reader. The contract of `csv`
+        // does not say so.
         _ => ReadFault::Read,
     }
 }

@@ -94,7 +94,7 @@ pub fn read_rows<R: Read, T: Takes>(
     ensures read { IsErrOf result LoadFault.Read → has_failed text.new ≡ true }
 {
     match take_text(alloc, &mut *text, taker) {
-        // A failed read is noted. There was none, so this error means that memory was refused.
+        // The contract of `csv` does not say that a read failed. If none did, the error is reported as refused memory.
         Err(LoadFault::Read) if !text.has_failed() => Err(LoadFault::Memory),
         taken => taken,
     }

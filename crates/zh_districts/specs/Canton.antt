@@ -1,11 +1,12 @@
--- The set-up of an election: the house, the constituencies with their municipalities, the groups of lists, and a quorum.
+-- The set-up of an election: the house, the constituencies with their municipalities, the groups of lists, and a canton-wide
+-- quorum, if there is one.
 use Rattle.std.specs.Prelude.{◌≡◌, ◌≢◌, ℕ, ◌-◌, ◌≤◌, Bool, true, false, not, ◌&&◌, ◌==◌, nat_le, IsTrue, Option, IfSome}
 use Rattle.std.specs.Prelude.{List, length, slice_get, slice_index, unwrap_or, map, All, AllPairs, Contains}
 use Rattle.std.specs.List.{list_all}
 use Rattle.std.specs.Str.{is_utf8}
 use Rattle.std.specs.Option.{option_map_or}
 
--- a constituency: its name in UTF-8, and how many persons live there
+-- a constituency: its name in UTF-8, and the number of its persons
 pub record Constituency : Type 0 where
   pub name : List ℕ
   pub persons : ℕ
@@ -21,8 +22,8 @@ pub record Group : Type 0 where
   pub name : List ℕ
   pub stands : List Bool
 
--- the set-up; constituencies, municipalities and groups are numbered from 1 in these orders; the canton-wide quorum, if there
--- is one, is in per mille of the votes of the whole canton
+-- a set-up; its constituencies, municipalities and groups are each numbered from 1 in the order of the list; the canton-wide
+-- quorum, if there is one, is in per mille of the votes of the whole canton
 pub record Canton : Type 0 where
   pub house : ℕ
   pub constituencies : List Constituency
@@ -34,30 +35,31 @@ pub record Canton : Type 0 where
 abbrev pub has_municipality : Canton → ℕ → Bool
 has_municipality canton m = nat_le 1 m && nat_le m (length canton.municipalities)
 
--- the persons of constituency d
+-- the persons of constituency d, from 1; 0 if there is no such constituency
 abbrev pub persons_of : Canton → ℕ → ℕ
 persons_of canton d = option_map_or (λ x. x.persons) (slice_get canton.constituencies (d - 1)) 0
 
--- the number of the constituency in which municipality m lies
+-- the number of the constituency in which municipality m, from 1, lies; 0 if there is no such municipality
 abbrev pub constituency_of : Canton → ℕ → ℕ
 constituency_of canton m = option_map_or (λ x. x.constituency) (slice_get canton.municipalities (m - 1)) 0
 
--- whether the list with this number stands in constituency d
+-- whether the list with this number stands in constituency d, from 1
 abbrev pub stands : Canton → ℕ → ℕ → Bool
 stands canton d list =
     nat_le 1 list && option_map_or (λ x. unwrap_or (slice_get x.stands (d - 1)) false) (slice_get canton.groups (list - 1)) false
 
--- not a control character, U+0000 to U+001F or U+007F; in UTF-8 each of these is one byte, which is part of no other character
+-- whether a byte is none of the control characters U+0000 to U+001F and U+007F; in UTF-8 each of these is one byte, and this
+-- byte is part of no other character
 abbrev pub is_printable : ℕ → Bool
 is_printable byte = nat_le 32 byte && not (byte == 127)
 
--- 1 to 40 bytes, with no control character and no space at either end
+-- whether a text has 1 to 40 bytes, none of these control characters, and no space at either end
 abbrev pub is_plain : List ℕ → Bool
 is_plain name =
     nat_le 1 (length name) && nat_le (length name) 40 && not (slice_index name 0 == 32)
     && not (slice_index name (length name - 1) == 32) && list_all is_printable name
 
--- such a text in UTF-8
+-- whether a text is a name: UTF-8, and plain as above
 abbrev pub is_name : List ℕ → Bool
 is_name name = is_utf8 name && is_plain name
 

@@ -4,7 +4,8 @@ use Rattle.zh_districts.specs.Canton.{Canton, has_municipality, stands, constitu
 use Rattle.zh_districts.specs.declared.setup.Misplaced.{Misplaced}
 use Rattle.zh_districts.specs.declared.setup.Misplaced.TheVariants as reasons
 
--- there is no such municipality; otherwise, the list does not stand in its constituency
+-- `Municipality` if the set-up has no municipality with this number; otherwise `List` if the list does not stand in the
+-- constituency of the municipality; otherwise `None`
 abbrev pub misplaced : Canton → ℕ → ℕ → Option Misplaced
 misplaced canton municipality list =
     if not (has_municipality canton municipality) then Some reasons.Municipality

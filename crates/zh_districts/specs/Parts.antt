@@ -6,7 +6,7 @@ use Rattle.zh_districts.specs.declared.setup.Municipality.{Municipality}
 use Rattle.zh_districts.specs.declared.setup.Group.{Group}
 use Rattle.zh_districts.specs.declared.setup.Draft.{Draft}
 
--- a constituency by its content, wherever it is in memory
+-- a constituency by its content, wherever that is in memory
 abbrev pub constituency : Constituency → canton.Constituency
 constituency x = record { name = string_bytes x.name; persons = x.persons }
 

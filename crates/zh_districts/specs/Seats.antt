@@ -7,7 +7,7 @@ use Rattle.zh_districts.specs.Canton.{Canton}
 abbrev pub persons : Canton → List ℕ
 persons canton = map (λ x. x.persons) canton.constituencies
 
--- the seats of the house in proportion to the persons
+-- the seats of each constituency, in order: those of the house in proportion to the persons, with no tie
 abbrev pub AreSeats : Canton → List ℕ → Type 0
 AreSeats canton seats = IsStrictFit (persons canton) canton.house seats
 

@@ -12,20 +12,20 @@ use std::marker::Model;
 /// Why a list does not stand in a municipality.
 #[derive(Clone, Copy)]
 pub enum Misplaced {
-    /// The set-up has no such municipality.
+    /// The set-up has no municipality with this number.
     Municipality,
     /// The list does not stand in the constituency of the municipality.
     List,
 }
 
-/// A constituency and how many persons live there, 1 to 10,000,000.
+/// A constituency and the number of its persons.
 #[derive(Drop)]
 pub struct Constituency {
     pub name: String,
     pub persons: u32,
 }
 
-/// A municipality and the number of its constituency, from 1.
+/// A municipality and the number of its constituency, counted from 1.
 #[derive(Drop)]
 pub struct Municipality {
     pub name: String,
@@ -46,7 +46,7 @@ pub struct Draft {
     pub constituencies: Vec<Constituency>,
     pub municipalities: Vec<Municipality>,
     pub groups: Vec<Group>,
-    /// In per mille of the votes of the whole canton, 1 to 49.
+    /// The canton-wide quorum, if there is one, in per mille of the votes of the whole canton.
     pub canton_quorum: Option<u32>,
 }
 
@@ -114,7 +114,7 @@ impl Setup {
         self.constituencies.len() as u32
     }
 
-    /// The persons who live in a constituency, 1 to 10,000,000.
+    /// The persons of a constituency, 1 to 10,000,000.
     pub fn persons(&self, constituency: u32) -> u32
         requires from_one { 1 ≤ constituency }
         requires there { constituency ≤ length self.now.constituencies }
@@ -123,7 +123,7 @@ impl Setup {
         self.constituencies[(constituency - 1) as usize].persons
     }
 
-    /// The persons of each constituency, in order. Fails if memory is refused.
+    /// The persons of each constituency, in the order of the set-up. Fails if memory is refused.
     pub(crate) fn each_persons(&self, alloc: Global) -> Result<Vec<u64>, AllocError>
         ensures persons { IfOk result (λ numbers. numbers.items ≡ persons self.now) }
         ensures limits { IsCanton self.now }

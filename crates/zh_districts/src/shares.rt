@@ -1,4 +1,4 @@
-//! The seats of the constituencies, which of them are tied, and which get none.
+//! The seats of the constituencies (GPR section 88), the constituencies that are tied, and those that get no seat.
 ghost use Rattle.std.specs.Prelude.{◌≡◌, ◌≤◌, ◌<◌, ℕ, List, MatchOption, IfOk, IsErrOf, length, slice_index, ◌==◌, false, map, replicate};
 ghost use Rattle.zh_districts.specs.Canton.{IsCanton};
 ghost use Rattle.zh_districts.specs.Claims.{IsTiedIn, IsUnseated, Tell};
@@ -19,7 +19,7 @@ pub enum SeatFault {
     Memory,
     /// A seat is worth as much to one constituency as to another.
     Tied,
-    /// This constituency is the first that gets no seat.
+    /// The number of the first constituency that gets no seat.
     NoSeat(u32),
 }
 
@@ -72,7 +72,8 @@ fn first_without(seats: &[u32]) -> Option<u32>
     None
 }
 
-/// The seats of the constituencies in proportion to their persons. A constituency can get none.
+/// The seats of the constituencies in proportion to their persons. A constituency can get none. Fails if the seats are tied or
+/// memory is refused.
 pub(crate) fn proportion(alloc: Global, setup: &Setup) -> Result<Shares, ShareFault>
     ensures shares { Apportions (persons setup.now) setup.now.house result }
     ensures limits { IsCanton setup.now }
@@ -89,7 +90,7 @@ pub fn seats(alloc: Global, setup: &Setup) -> Result<Shares, SeatFault>
     ensures divisor { IfOk result (HasDivisor (persons setup.now)) }
     ensures rounds { IfOk result (RoundsEach (persons setup.now)) }
 
-    // The cases exclude each other. So, unless memory is refused, each answer is given if and only if its case holds.
+    // The cases exclude each other. So, unless the fault is `Memory`, each answer is given if and only if its case holds.
     ensures tied { IsErrOf result SeatFault.Tied → IsTied (persons setup.now) setup.now.house }
     ensures no_seat { (d : ℕ) → IsErrOf result (SeatFault.NoSeat d) → (seats : List ℕ) × AreSeats setup.now seats × IsFirstWithout seats d }
 {
@@ -103,7 +104,7 @@ pub fn seats(alloc: Global, setup: &Setup) -> Result<Shares, SeatFault>
     }
 }
 
-/// For each constituency, in order, whether a seat is worth as much to it as to another one. Fails if memory is refused.
+/// For each constituency, in order, whether it is one of those between which seats are tied. Fails if memory is refused.
 pub fn tied(alloc: Global, setup: &Setup) -> Result<Vec<bool>, AllocError>
     ensures { IfOk result (λ marks. Tell (IsTiedIn setup.now) (length setup.now.constituencies) marks.items) }
 {
@@ -126,7 +127,7 @@ fn unmarked(alloc: Global, count: usize) -> Result<Vec<bool>, AllocError>
     vec![in alloc; false; count]
 }
 
-/// For each constituency, in order, whether its persons give it no seat. None is marked if the seats are tied. Fails if memory
+/// For each constituency, in order, whether it gets no seat. If the seats are tied, no constituency is marked. Fails if memory
 /// is refused.
 pub fn unseated(alloc: Global, setup: &Setup) -> Result<Vec<bool>, AllocError>
     ensures { IfOk result (λ marks. Tell (IsUnseated setup.now) (length setup.now.constituencies) marks.items) }

@@ -15,7 +15,7 @@ fails Spent = false
 fails Device = true
 fails Broken = false
 
--- after every other outcome the disk is unchanged
+-- whether the disk can have changed if a command has this outcome
 abbrev pub may_write : Outcome → Bool
 may_write (Stored accepted) = true
 may_write Same = false

@@ -51,13 +51,13 @@ pub record MakesRoom (s : Ledger) (command : Command) (result : Result ℕ Switc
   pub outside : Leaves SameOutsideSlots old new
   pub done : OnOk result (Moves (Readies s command) old.now new.now)
 
--- a clean image that represents the count after the first of these commands, in order, and at least `least` of them
+-- a clean image that represents the count after a prefix of these commands, with at least `least` of them
 pub record HasSome (tally : Tally) (commands : List Command) (least : ℕ) (c : List ℕ) : Type 0 where
   pub number : ℕ
   pub at_least : least ≤ number
   pub within : number ≤ length commands
   pub holds : Holds (after tally (take number commands)) c
 
--- an image that the ledger knows comes to have the first of these commands, at least `least` of them
+-- an image that the ledger knows comes to have a prefix of these commands, with at least `least` of them
 abbrev pub ComesToHave : Ledger → List Command → ℕ → List ℕ → List ℕ → Type 0
 ComesToHave s commands least old new = HoldsLedger s old → HasSome s.tally commands least new

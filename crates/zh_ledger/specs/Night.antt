@@ -17,7 +17,7 @@ use Rattle.zh_ledger.specs.declared.opening.OpenFault.{OpenFault}
 use Rattle.zh_ledger.specs.declared.opening.OpenFault.TheVariants as faults
 
 -- What keeps a count on a disk, a ledger or an office: its state (the holder), what it is given, and what it answers; the
--- ledger in it, and whether it was just opened; and what is done with what it is given, and added to the log.
+-- ledger in it, and whether it was just opened; and what it does when it is given something, and what this adds to the log.
 pub record Keeper : Type 1 where
   pub Holder : Type 0
   pub Given : Type 0
@@ -65,7 +65,7 @@ pub record StopsWithin (old new : Trail) (c : List ℕ) : Type 0 where
   pub due : GoesOn at new
   pub image : IsImage at.now c
 
--- a call of the open holder begins at this moment and does this, on a disk that is honest until its end
+-- a call of the open holder begins at this moment and does this, on a disk that is honest until the call ends
 pub record Works (K : Keeper) (s : Stretch K) (given : K.Given) (answer : K.Answer) (log : Log) (new : OnDisk K.Holder) : Type 0 where
   pub old : OnDisk K.Holder
   pub holder : s.holder ≡ Some old.holder
@@ -104,15 +104,15 @@ pub record IsCurrent (canton : Canton) (kept : List Command) (now : Moment) (log
   pub all_acknowledged : ledger.store.broken ≡ false → log.acknowledged ≡ length log.accepted
   pub images : ledger.store.broken ≡ false → (c : List ℕ) → IsImage now c → HoldsLedger ledger c
 
--- Between two events, if the stretches before kept these commands: each image represents the count after these and the first of
--- those accepted since, in order, including all that were acknowledged. At most one accepted command was not acknowledged.
+-- Between two events, if the stretches before kept these commands: each image represents the count after these and a prefix of
+-- those accepted since, which includes all that were acknowledged. At most one accepted command was not acknowledged.
 pub record IsSound {K : Keeper} (canton : Canton) (kept : List Command) (s : Stretch K) : Type 0 where
   pub each : (c : List ℕ) → IsImage s.now c → HasSome (after (empty canton) kept) s.log.accepted s.log.acknowledged c
   pub last : length s.log.accepted ≤ s.log.acknowledged + 1
   pub ledger : IfSome s.holder (λ holder. IsCurrent canton kept s.now s.log (K.ledger holder))
 
--- an opening found the count after the commands that were kept before and the first of those accepted since, in order,
--- including all that were acknowledged; each is counted once
+-- an opening found the count after the commands that were kept before and a prefix of those accepted since, which includes all
+-- that were acknowledged; each is counted once
 pub record Finds (canton : Canton) (kept : List Command) (log : Log) (ledger : Ledger) : Type 0 where
   pub number : ℕ
   pub at_least : log.acknowledged ≤ number
@@ -120,7 +120,8 @@ pub record Finds (canton : Canton) (kept : List Command) (log : Log) (ledger : L
   pub count : ledger.tally ≡ after (empty canton) (kept ++ take number log.accepted)
   pub once : ledger.tally.accepted ≡ length (kept ++ take number log.accepted)
 
--- what an event says; an opening ends the stretch, and what it found is kept from then on
+-- what an event says: an opening ends the stretch, and what it found is kept from then on; an opening that fails has the fault
+-- `Memory` or `Device`; other events say nothing
 abbrev pub Says : {K : Keeper} → Canton → List Command → Log → Event K → (List Command → Type 0) → Type 0
 Says {K} canton kept log (opened holder) Then =
     (found : Finds canton kept log (K.ledger holder)) × Then (kept ++ take found.number log.accepted)

@@ -26,7 +26,7 @@ use Rattle.zh_ledger.specs.Stands.{HoldsFramed, StandsFor}
 use Rattle.zh_ledger.specs.declared.opening.OpenFault.{OpenFault}
 use Rattle.zh_ledger.specs.declared.opening.OpenFault.TheVariants as faults
 
--- a clean image with the count of this content as its snapshot in format Two, one generation later
+-- a clean image of this content one generation later, with this count in format Two as its snapshot and no records
 abbrev pub IsMigrated : Content → Tally → List ℕ → Type 0
 IsMigrated content tally c = IsClean (with_snapshot content (payload_spelling Two tally)) 0 c
 

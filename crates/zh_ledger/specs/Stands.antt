@@ -1,4 +1,4 @@
--- What a disk's content stands for.
+-- Which count the content of a disk represents.
 use Rattle.std.specs.Prelude.{◌≡◌, ◌<◌, ◌-◌, ◌^◌, ℕ, List, [], ◌∷◌, All, map}
 use Rattle.zh_districts.specs.Spelling.{setup_spelling}
 use Rattle.zh_returns.specs.Tally.{Tally}
@@ -28,8 +28,8 @@ pub record Replays (format : Format) (start : Tally) (records : List (List ℕ))
   pub accepted : AreAccepted start commands
   pub count : tally ≡ after start commands
 
--- the set-up bytes are those of this count's set-up, and the records lead from the count of the snapshot to this one, both in
--- this format
+-- the set-up bytes are those of this count's set-up; the snapshot and the records are in this format, and the records lead from
+-- the count of the snapshot to this one
 pub record StandsFor (format : Format) (x : Content) (tally : Tally) : Type 0 where
   pub setup : x.setup ≡ setup_spelling tally.canton
   pub start : Tally

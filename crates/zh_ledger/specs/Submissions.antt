@@ -18,7 +18,7 @@ pub record OnDisk (S : Type 0) : Type 0 where
 abbrev pub on_disk : {S : Type 0} → S → History → OnDisk S
 on_disk holder history = record { holder = holder; history = history }
 
--- the same with only the ledger in it
+-- the same with only the ledger of the holder
 abbrev pub of_ledger : {S : Type 0} → (S → Ledger) → OnDisk S → OnDisk Ledger
 of_ledger ledger o = on_disk (ledger o.holder) o.history
 
@@ -54,9 +54,9 @@ Submits old (x ∷ xs) log new =
     (mid : OnDisk Ledger) × (others : Log) × (by : Submission old x.0 x.1 mid)
     × (log ≡ followed_by by.log others) × Submits mid xs others new
 
--- What commands leave. At each moment, an image has the first of the accepted commands, in order, with none skipped. At the
--- end, it has at least those that were acknowledged, which are all or all but one, and the ledger counts exactly these. Nothing
--- outside the two slots changes, whatever the images were.
+-- What commands leave. At each moment, an image has a prefix of the accepted commands. At the end, it has at least those that
+-- were acknowledged, which are all or all but the last, and the ledger counts exactly these. Nothing outside the two slots
+-- changes, whatever the images were.
 pub record IsLogged (old : OnDisk Ledger) (log : Log) (new : OnDisk Ledger) : Type 0 where
   pub each_moment : Leaves (ComesToHave old.holder log.accepted 0) old.history.trail new.history.trail
   pub last_moment : Moves (ComesToHave old.holder log.accepted log.acknowledged) old.history.trail.now new.history.trail.now

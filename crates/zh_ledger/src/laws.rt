@@ -26,10 +26,10 @@ pub fn submissions()
 
 /// A night of commands, stops and openings on an honest disk that was formatted for the ledger, event by event.
 ///
-/// Each image of the disk represents the count after all commands that were accepted since the last opening, or after all but
-/// the last, which then was not acknowledged. So each opening finds, for each stretch between openings, the first of the
-/// accepted commands in order, including all that were acknowledged, each counted once. An opening fails only if memory is
-/// refused or the device fails.
+/// Each image of the disk represents the count that the last opening found, after all commands that were accepted since, or
+/// after all but the last, if that one was not acknowledged. So each opening finds, for each stretch between openings, a
+/// prefix of the accepted commands that includes all acknowledged ones, each counted once. The only faults of an opening are
+/// `Memory` and `Device`.
 pub fn nights()
     ensures { Law by_commands }
 {}

@@ -57,10 +57,10 @@ pub(crate) fn buffer(alloc: Global) -> Result<Vec<u8>, AllocError>
 }
 
 impl<'s> Ledger<'s> {
-    /// Formats a disk: afterwards it holds the empty count, whatever it held before. Memory is allocated before the first call
-    /// of the device.
+    /// Formats a disk. On success an honest disk holds the empty count, whatever it held before. All memory is allocated before
+    /// the first call of the disk.
     pub fn format<D: Disk>(alloc: Global, setup: &Setup, disk: &mut D) -> Result<(), FormatFault>
-        // If the disk is honest, this also says what each image is, at each moment since the call began.
+        // If the disk is honest, this also says what a stop can leave, at each moment since the call began.
         ensures call { Call store_format_fails (MakesNew setup.now) (D.history disk.old) (D.history disk.new) result }
 
         ensures untouched { IsErrOf result FormatFault.Memory → disk.new ≡ disk.old }
@@ -85,19 +85,19 @@ impl<'s> Ledger<'s> {
         self.count.totals()
     }
 
-    /// Whether the device failed, so that the disk must be opened again.
+    /// Whether a command met a fault of the device, so that the disk must be opened again.
     pub fn is_broken(&self) -> bool
         ensures { result ≡ self.now.store.broken }
     {
         self.store.is_broken()
     }
 
-    /// Judges a command. If it is accepted, stores it and counts it. It allocates no memory.
+    /// Judges a command. If it is accepted, stores it and then counts it. Allocates no memory.
     pub fn submit<D: Disk>(&mut self, disk: &mut D, command: &Command<'_>) -> Outcome
         requires numbers { HasNumbers command.now }
 
-        // If the disk is honest, this also says what each image holds, at each moment since the call began, and that nothing
-        // outside the two slots changes, whatever the images were.
+        // If the disk is honest, this also says what a stop can leave, at each moment since the call began, and that nothing
+        // outside the two slots changes, whatever the disk held.
         ensures submission { Submission (on_disk self.old (D.history disk.old)) command.now result
             (on_disk self.new (D.history disk.new)) }
 

@@ -1,7 +1,7 @@
 //! The count on a disk.
 //!
-//! A command is judged, stored on the disk, and only then counted. After a stop at any moment, the next opening finds the count
-//! after the first of the accepted commands, in order, including every command that was acknowledged.
+//! A command is judged, stored on the disk, and only then counted. After a stop at any moment, the next opening of an honest
+//! disk finds the count after a prefix of the accepted commands, which includes every one that was acknowledged.
 #![tactic(auto)]
 
 mod laws;

@@ -1,4 +1,4 @@
-//! Opens the ledger on a disk.
+//! The opening of the ledger on a disk.
 
 ghost use Rattle.std.specs.Prelude.{◌≡◌, ◌≢◌, ◌≤◌, ◌-◌, ◌^◌, false, length, IfOk, OnOk, IsErrOf, is_err, ◌<◌, ℕ, ◌∷◌, true, List, []};
 ghost use Rattle.zh_disk.specs.Disk.{Asks};
@@ -33,9 +33,9 @@ pub enum OpenFault {
     Device,
     /// The disk gate is closed: the disk is not formatted.
     Blank,
-    /// The content of the disk breaks a rule of the format.
+    /// The disk gate is open, but the disk is not framed, or its content represents no count of this set-up.
     Damaged,
-    /// The disk was formatted for another set-up.
+    /// The disk is framed, but its set-up bytes are not those of this set-up.
     SetupDiffers,
 }
 
@@ -97,18 +97,19 @@ impl From<zh_snapshot::OpenFault> for OpenFault {
 
 impl<'s> Ledger<'s> {
     /// Opens the ledger on a disk: a sync, and then only reads. If the slot in use has format One, a switch to the same count
-    /// in format Two follows, provided that a generation is left for it. Memory is allocated before the first call of the
-    /// device.
+    /// in format Two follows, provided that a generation is left for it. All memory is allocated before the first call of the
+    /// disk.
     ///
-    /// The fault is `Blank` if the disk gate is closed; `Damaged` if the header, the slot or the records break a rule of
-    /// docs/FORMATS.md; `SetupDiffers` if they are right but the disk has another set-up; and `Damaged` also if the set-up is
-    /// the same but the snapshot or a record does not belong to an election with that set-up.
+    /// A disk that can't be opened is judged in this order (docs/FORMATS.md). `Blank`: the disk gate is closed. `Damaged`: the
+    /// disk is not framed. `SetupDiffers`: its set-up bytes are not those of `setup`. `Damaged` again: the snapshot is not a
+    /// count of this set-up, or a record has no command that is accepted in its turn. If a call of the disk fails, the fault is
+    /// `Device`.
     pub fn open<D: Disk>(
         alloc: Global,
         setup: &'s Setup,
         disk: &mut D,
     ) -> Result<Ledger<'s>, OpenFault>
-        // If the disk is honest, this also says what each image is, at each moment since the call began.
+        // If the disk is honest, this also says what a stop can leave, at each moment since the call began.
         ensures opening { Opening setup.now (D.history disk.old) (D.history disk.new) result }
 
         ensures untouched { IsErrOf result OpenFault.Memory → disk.new ≡ disk.old }
@@ -128,8 +129,8 @@ impl<'s> Ledger<'s> {
     }
 }
 
-/// Reads the count on a store's disk: the snapshot, and then the records that the reader has not read yet. Returns its format.
-/// `count` must be the empty count of the set-up that has these bytes.
+/// Compares the set-up bytes on a store's disk with `setup` and reads the count there: the snapshot, and then the records that
+/// the reader has not read yet. Returns its format. `count` must be the empty count of the set-up with the bytes `setup`.
 fn read_count<D: Disk>(
     disk: &mut D,
     store: &Store,
@@ -164,7 +165,7 @@ fn read_count<D: Disk>(
 }
 
 /// If the slot in use has format One, switches to the same count in format Two. Returns the format of the slot that is in use
-/// afterwards. At the last generation, no switch is left.
+/// afterwards: it is still One at the last generation, at which no switch is left.
 fn migrate<D: Disk>(
     format: Format,
     count: &RunningCount<'_>,
@@ -216,8 +217,8 @@ fn replay(
     true
 }
 
-/// Applies the command of a record to the count. False if the record has no command that is accepted; then the count is
-/// unchanged.
+/// Applies the command of a record to the count. False if the record spells no command, if the command is not accepted, or if
+/// 2^64 - 1 commands already are; then the count is unchanged.
 fn replay_record(payload: &[u8], format: Format, count: &mut RunningCount<'_>) -> bool
     ensures replayed { result ≡ true → Replays format count.old (payload.now ∷ []) count.new }
     ensures refused { result ≡ false → (command : Command) → IsSpeakable format command

@@ -6,7 +6,7 @@ use zh_returns::Reason;
 pub enum Outcome {
     /// It is on the disk and counted. The number is that of all accepted commands, including this one.
     Stored(u64),
-    /// Its content is already held.
+    /// The count already has what it says.
     Same,
     /// The count refuses it, for this reason.
     Refused(Reason),

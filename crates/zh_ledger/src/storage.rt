@@ -123,8 +123,8 @@ pub(crate) fn switch<D: Disk>(
     requires buffer { length buffer.old ≡ PAYLOAD_LENGTH }
     requires whole { store.old.broken ≡ false }
 
-    // At each moment, each image has the content from the start, or the count as its snapshot. Nothing outside the other slot
-    // changes, whatever the image was.
+    // If the disk is honest, each image has, at each moment, the content from the start or the count as its snapshot. Nothing
+    // outside the other slot changes, whatever the image was.
     ensures call { Call store_switch_fails (StoreSwitch store.old (payload_spelling Format.Two count.now))
         (D.history disk.old) (D.history disk.new) result }
 

@@ -1,4 +1,4 @@
--- Which groups take part in the apportionment: GPR section 102, and a canton-wide quorum beside it.
+-- Which groups take part in the apportionment: GPR section 102, and in addition a canton-wide quorum.
 use Rattle.std.specs.Prelude.{◌≡◌, ℕ, ◌+◌, ◌-◌, ◌*◌, ◌<◌, ◌≤◌, ◌↔◌, ◌⊎◌, Bool, false, IsTrue, Some, List, length, slice_index_or}
 use Rattle.zh_divisors.specs.Sums.{sum_to}
 use Rattle.zh_totals.specs.Totals.{VoteTotals, votes_in, constituency_votes, all_votes}

@@ -29,7 +29,7 @@ fn all_votes(totals: &Totals) -> u64
     votes
 }
 
-/// Whether the set-up has a canton-wide quorum, and the group has votes and at least this share, in per mille, of all votes
+/// Whether the set-up has a canton-wide quorum, and the group has votes and at least that share, in per mille, of all votes
 /// of the canton.
 pub(crate) fn reaches_canton_quorum(totals: &Totals, group: u32) -> bool
     requires from_one { 1 ≤ group }

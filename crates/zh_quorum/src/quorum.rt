@@ -43,7 +43,7 @@ fn takes_part(totals: &Totals, group: u32) -> bool
 
 /// For each group, in order, whether it takes part in the apportionment. It does if one of its lists has votes and at least
 /// 5 per cent of the votes of its constituency (GPR section 102). If the set-up has a canton-wide quorum, it also does if it
-/// has votes and at least that share of all votes of the canton.
+/// has votes and at least that share of all votes of the canton. Fails if memory is refused.
 pub fn participating(alloc: Global, totals: &Totals) -> Result<Vec<bool>, AllocError>
     ensures { IfOk result (λ taking. AreParticipating totals.now taking.items) }
 {

@@ -14,7 +14,7 @@ pub enum RecordFault {
     /// An allocation was refused.
     #[error("memory")]
     Memory,
-    /// The writer failed or accepted zero bytes.
+    /// The writer failed, or the crate `csv` reported an error other than refused memory.
     #[error("write")]
     Write,
 }
@@ -82,7 +82,7 @@ pub trait NumberedRows<W: Write + Drop> {
         ensures { OnOk result (PutsText W.contents (text self.now number) writer.old writer.new) };
 }
 
-/// Writes the text of each number, in order. On an error, a prefix of it all might have been written.
+/// Writes the text of each number, in order. On an error, a prefix of the whole text might have been written.
 pub fn write_each<W: Write + Drop, T: NumberedRows<W>>(
     writer: &mut Writer<W>,
     rows: &T,
@@ -106,7 +106,7 @@ pub fn open_table<W: Write + Drop>(columns: &[&str], writer: W) -> Result<Writer
     Ok(writer)
 }
 
-/// Ends a table and returns the underlying writer, which then has all of the table.
+/// Ends a table: writes what the CSV writer still holds, and returns the underlying writer, which then has all of the table.
 pub fn close_table<W: Write + Drop>(writer: Writer<W>) -> Result<W, RecordFault>
     ensures { (under : Option (List ℕ)) (text : List ℕ) → HasWritten W.contents under text writer
         → IfOk result (λ after. Appends under (W.contents after) text) }

@@ -1,4 +1,4 @@
--- The batches of the desks.
+-- How a batch of a desk keeps its rows.
 use Rattle.std.specs.Prelude.{◌≡◌, ℕ, List, All}
 use Rattle.zh_returns.specs.declared.row.Row.{Row}
 use Rattle.zh_returns.specs.Rows.{row_key}

@@ -10,7 +10,7 @@ abbrev pub fields_spelling : EntryFields → List ℕ
 fields_spelling fields = fields.state ∷ (origin_spelling fields.origin ++ (to_be_bytes w32 fields.number
     ++ (to_be_bytes w32 fields.votes ++ (0 ∷ 0 ∷ 0 ∷ 0 ∷ []))))
 
--- nothing, or an entry: the state is 1 for votes, and 2 for a withdrawn list
+-- the fields for what is held: the state is 0 for nothing, 1 for votes, and 2 for a withdrawn list
 abbrev pub fields_of : Option Entry → EntryFields
 fields_of None = record { state = 0; origin = no_desk; number = 0; votes = 0 }
 fields_of (Some entry) =

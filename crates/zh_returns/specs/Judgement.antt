@@ -1,4 +1,4 @@
--- What becomes of a command: the first case that applies decides.
+-- The verdict on a command: the first case that applies decides.
 use Rattle.std.specs.Prelude.{ℕ, ◌+◌, Bool, true, false, not, nat_lt, ◌==◌, if◌then◌else◌, Option, Some, None, List, map, unwrap_or}
 use Rattle.std.specs.List.{list_any, find}
 use Rattle.std.specs.FinSet as set
@@ -38,12 +38,12 @@ against (Some entry) number content =
     else if number == entry.number + 1 then Accept
     else Refused reasons.Gap
 
--- the reason if a list does not stand in a municipality
+-- the reason for a refusal if a list does not stand in a municipality
 abbrev pub reason_of : Misplaced → Reason
 reason_of places.Municipality = reasons.Municipality
 reason_of places.List = reasons.List
 
--- that reason if there is one, and otherwise this verdict
+-- a refusal for that reason if there is one, and otherwise this verdict
 abbrev pub unless_misplaced : Option Misplaced → Verdict → Verdict
 unless_misplaced (Some misplaced) verdict = Refused (reason_of misplaced)
 unless_misplaced None verdict = verdict
@@ -68,7 +68,7 @@ judge_close tally municipality =
     else if set.contains tally.closed municipality then Same
     else Accept
 
--- the verdict on opening it again
+-- the verdict on opening a municipality again
 abbrev pub judge_reopen : Tally → ℕ → Verdict
 judge_reopen tally municipality =
     if not (has_municipality tally.canton municipality) then Refused reasons.Municipality
@@ -85,8 +85,8 @@ is_accept Accept = true
 is_accept Same = false
 is_accept (Refused reason) = false
 
--- the verdict on a batch, from those on its rows: the first refusal, if there is one; otherwise, accepted if some row is
--- accepted
+-- the verdict on a batch, from those on its rows: the first refusal, if there is one; otherwise `Accept` if some row is
+-- accepted, and `Same` if none is
 abbrev pub of_all : List Verdict → Verdict
 of_all verdicts = unwrap_or (find is_refusal verdicts) (if list_any is_accept verdicts then Accept else Same)
 

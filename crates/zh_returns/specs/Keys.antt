@@ -1,4 +1,4 @@
--- The keys under which returns stand.
+-- The order of the keys of a count: pairs of a municipality and a list.
 use Rattle.std.specs.Prelude.{ℕ}
 use Rattle.std.specs.Ordering.{nat_cmp, ordering_then}
 use Rattle.std.specs.declared.cmp.Ordering.{Ordering}

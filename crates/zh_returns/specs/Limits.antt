@@ -18,7 +18,7 @@ pub record IsEntryOf (format : Format) (entry : Entry) : Type 0 where
   pub number : (1 ≤ entry.number) × (entry.number < 2 ^ 32)
   pub votes : IfSome entry.votes (λ votes. votes ≤ most_votes)
 
--- the same for the format that is written
+-- the same for format Two, in which entries are written
 abbrev pub IsEntry : Entry → Type 0
 IsEntry = IsEntryOf Two
 
@@ -26,8 +26,8 @@ IsEntry = IsEntryOf Two
 abbrev pub IsSaidIn : Format → Tally → Type 0
 IsSaidIn format tally = (municipality list : ℕ) → IfSome (held tally municipality list) (λ entry. IsOriginOf format entry.origin)
 
--- the entries are within their limits, and their lists stand in municipalities of the set-up; the closed municipalities are in
--- the set-up
+-- the set-up and the entries are within their limits; the lists of the entries stand in their municipalities, which are in the
+-- set-up, and so are the closed municipalities; fewer than 2 ^ 64 commands were accepted
 pub record IsTally (tally : Tally) : Type 0 where
   pub canton : IsCanton tally.canton
   pub entries : (municipality list : ℕ) → IfSome (held tally municipality list) (IsEntryOf Two)

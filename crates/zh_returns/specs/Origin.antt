@@ -6,11 +6,11 @@ use Rattle.zh_returns.specs.declared.command.Command.TheVariants as commands
 use Rattle.zh_returns.specs.declared.command.Format.{Format}
 use Rattle.zh_returns.specs.declared.entry.Origin.{Origin}
 
--- no desk, or a desk that is not known
+-- desk 0: no desk, or a desk that is not known
 abbrev pub no_desk : Origin
 no_desk = record { desk = 0 }
 
--- the origin of the entries that a command puts into the count
+-- the origin of the entries that a command puts into the count; a closing and a reopening put none
 abbrev pub origin_of : Command → Origin
 origin_of (commands.Return desk row) = record { desk = desk }
 origin_of (commands.Withdraw desk municipality list number) = record { desk = desk }

@@ -21,11 +21,12 @@ unfoldable pub zeros : ℕ → List ℕ
 zeros zero = []
 zeros (suc n) = 0 ∷ zeros n
 
--- what is held, municipality by municipality, and list by list in each
+-- what is held in each of this many municipalities, in order, and there for each of the lists 1 to 32
 abbrev pub table_of : Tally → ℕ → List (Option Entry)
 table_of tally municipalities = flat_map (λ municipality. map (held tally municipality) (numbers 1 32)) (numbers 1 municipalities)
 
--- the byte that says which of eight municipalities are closed
+-- the byte with this number, from 0, of those that say which municipalities are closed: it has a bit for each of eight of them,
+-- the lowest bit for municipality 8 * byte + 1
 abbrev pub closed_byte : Tally → ℕ → ℕ
 closed_byte tally byte = mask_of (map (set.contains tally.closed) (numbers (8 * byte + 1) 8))
 
@@ -38,8 +39,7 @@ abbrev pub format_byte : Format → ℕ
 format_byte One = 0
 format_byte Two = 2
 
--- how many commands were accepted, which of 512 municipalities are closed, the format and 174 bytes that are not in use, and
--- what is held
+-- how many commands were accepted, which of 512 municipalities are closed, the format and 174 zeros, and what is held
 abbrev pub payload_spelling : Format → Tally → List ℕ
 payload_spelling format tally =
     to_be_bytes w64 tally.accepted

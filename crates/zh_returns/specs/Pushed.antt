@@ -10,7 +10,7 @@ pub record Pushed : Type 0 where
   pub rows : List Row
   pub room : ℕ
 
--- the bytes begin with `count` rows
+-- the bytes begin with `count` rows, which can be in one batch
 pub record AreWritten (bytes : List ℕ) (count : ℕ) : Type 0 where
   pub within : row_length * count ≤ length bytes
   pub spelling : flat_map row_spelling (rows_from count bytes) ≡ take (row_length * count) bytes

@@ -1,4 +1,4 @@
--- Why a batch does not take a row, memory aside.
+-- Why a batch does not take a row, apart from refused memory.
 use Rattle.std.specs.Prelude.{ℕ, nat_le, nat_lt, if◌then◌else◌, List, length, codes, Option, Some, None}
 use Rattle.zh_districts.specs.Canton.{Canton}
 use Rattle.zh_districts.specs.Misplaced.{misplaced}
@@ -12,12 +12,12 @@ use Rattle.zh_returns.specs.declared.judgement.Reason.TheVariants as reasons
 use Rattle.zh_returns.specs.declared.row.RowFault.{RowFault}
 use Rattle.zh_returns.specs.declared.row.RowFault.TheVariants.{Twice, BatchFull}
 
--- the list does not stand there; otherwise, there are too many votes
+-- the first reason that applies: the list does not stand there, or there are too many votes
 abbrev pub unfit_at : Option Misplaced → ℕ → Option Reason
 unfit_at (Some place) votes = Some (reason_of place)
 unfit_at None votes = if nat_lt most_votes votes then Some reasons.Votes else None
 
--- why no batch may contain a row: the first reason that applies
+-- why a row is refused whatever the batch contains: the first reason that applies
 abbrev pub unfit : Canton → Row → Option Reason
 unfit canton row = unfit_at (misplaced canton row.municipality row.list) row.votes
 
@@ -25,7 +25,7 @@ unfit canton row = unfit_at (misplaced canton row.municipality row.list) row.vot
 abbrev pub fault_in : List Row → Row → Option RowFault
 fault_in rows row = if has_key rows (row_key row) then Some Twice else if nat_le most_rows (length rows) then Some BatchFull else None
 
--- the name of such a fault, as replies spell it
+-- the name of a fault, as replies spell it
 abbrev pub row_fault_name : RowFault → List ℕ
 row_fault_name Twice = codes "twice"
 row_fault_name BatchFull = codes "batchfull"

@@ -10,7 +10,7 @@ use Rattle.zh_returns.specs.Keys.{key_cmp}
 abbrev pub row_spelling : Row → List ℕ
 row_spelling row = to_be_bytes w16 row.municipality ++ (row.list ∷ (to_be_bytes w32 row.number ++ to_be_bytes w32 row.votes))
 
--- the numbers of a row fit into its bytes
+-- the municipality and the list of a row fit into its bytes
 abbrev pub FitsRow : Row → Type 0
 FitsRow row = (row.municipality < 2 ^ 16) × (row.list < 2 ^ 8)
 

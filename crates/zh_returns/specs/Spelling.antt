@@ -8,7 +8,8 @@ use Rattle.zh_returns.specs.declared.command.Format.{Format}
 use Rattle.zh_returns.specs.declared.command.Format.TheVariants.{One, Two}
 use Rattle.zh_returns.specs.Rows.{row_spelling, FitsRow, IsSpeakableRow, IsBatch}
 
--- the kind of a command with a desk: one byte in format One; another byte, and then the desk in one byte, in format Two
+-- how a command that has a desk begins: with its kind in format One; with a different kind and the desk, one byte each, in
+-- format Two
 abbrev pub head : Format → ℕ → ℕ → ℕ → List ℕ
 head One one two desk = one ∷ []
 head Two one two desk = two ∷ desk ∷ []
@@ -23,7 +24,7 @@ command_spelling format (commands.Close municipality) = 3 ∷ to_be_bytes w16 mu
 command_spelling format (commands.Reopen municipality) = 4 ∷ to_be_bytes w16 municipality
 command_spelling format (commands.Batch desk rows) = head format 5 8 desk ++ (to_be_bytes w16 (length rows) ++ flat_map row_spelling rows)
 
--- the last desk that a format can name: format One names none
+-- the greatest desk number in a format: 0 in format One, which has no desks
 abbrev pub last_desk : Format → ℕ
 last_desk One = 0
 last_desk Two = 8
@@ -32,7 +33,7 @@ last_desk Two = 8
 abbrev pub IsWithdrawal : ℕ → ℕ → ℕ → Type 0
 IsWithdrawal municipality list number = (municipality < 2 ^ 16) × (list < 2 ^ 8) × (1 ≤ number) × (number < 2 ^ 32)
 
--- the desk and the numbers of a command fit into its bytes
+-- the desk, the municipalities and the lists of a command fit into its bytes in format Two
 abbrev pub FitsCommand : Command → Type 0
 FitsCommand (commands.Return desk row) = (desk ≤ last_desk Two) × FitsRow row
 FitsCommand (commands.Withdraw desk municipality list number) = (desk ≤ last_desk Two) × (municipality < 2 ^ 16) × (list < 2 ^ 8)
@@ -48,7 +49,7 @@ IsSpeakable format (commands.Close municipality) = municipality < 2 ^ 16
 IsSpeakable format (commands.Reopen municipality) = municipality < 2 ^ 16
 IsSpeakable format (commands.Batch desk rows) = (desk ≤ last_desk format) × IsBatch rows
 
--- a desk up to the last one, replacement numbers from 1 on that fit into four bytes, and rows that are a batch
+-- a desk that format Two can name, replacement numbers from 1 on that fit into four bytes, and rows that are a batch
 abbrev pub HasNumbers : Command → Type 0
 HasNumbers (commands.Return desk row) = (desk ≤ last_desk Two) × (1 ≤ row.number) × (row.number < 2 ^ 32)
 HasNumbers (commands.Withdraw desk municipality list number) = (desk ≤ last_desk Two) × (1 ≤ number) × (number < 2 ^ 32)

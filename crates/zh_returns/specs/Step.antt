@@ -27,7 +27,7 @@ entry_of origin row = record { origin = origin; number = row.number; votes = Som
 abbrev pub with_rows : Origin → map.FinMap key_cmp Entry → List Row → map.FinMap key_cmp Entry
 with_rows origin = fold (λ entries row. map.insert entries (row_key row) (entry_of origin row))
 
--- the accepted rows of a batch; if the batch is accepted, the others are already held, and their entries keep their origins
+-- the accepted rows of a batch; if the batch is accepted, the count already has the others, and their entries keep their origins
 abbrev pub accepted_rows : Tally → List Row → List Row
 accepted_rows tally = filter (λ row. is_accept (judge_row tally row))
 
@@ -57,7 +57,7 @@ changed tally command = record {
   accepted = tally.accepted + 1;
 }
 
--- the count after a command with this verdict
+-- the count after a command with this verdict: the first of the two counts if it is accepted, and otherwise the second
 abbrev pub on_verdict : Verdict → Tally → Tally → Tally
 on_verdict Accept new old = new
 on_verdict Same new old = old
@@ -67,7 +67,7 @@ on_verdict (Refused reason) new old = old
 abbrev pub step : Tally → Command → Tally
 step tally command = on_verdict (judge tally command) (changed tally command) tally
 
--- an accepted command leads to the next step, which is the change that it describes
+-- the new count is the one after the command, which made the change that it describes: it was accepted
 pub record Steps (old : Tally) (command : Command) (new : Tally) : Type 0 where
   pub step : new ≡ step old command
   pub changed : new ≡ changed old command
@@ -77,7 +77,7 @@ abbrev pub after : Tally → List Command → Tally
 after tally [] = tally
 after tally (command ∷ commands) = after (step tally command) commands
 
--- a row that may be put into the count: its list stands in its municipality, and its numbers are within the limits
+-- a row that may be put into the count: its list stands in its municipality, and its other numbers are within the limits
 pub record MayStand (canton : Canton) (row : Row) : Type 0 where
   pub place : misplaced canton row.municipality row.list ≡ None
   pub number : 1 ≤ row.number

@@ -48,7 +48,7 @@ pub record IsHeldAt (format : Format) (canton : Canton) (key : ℕ × ℕ) (entr
   pub limits : IsEntryOf format entry
   pub place : misplaced canton key.0 key.1 ≡ None
 
--- every entry of a table is such an entry
+-- every entry of a table is of this kind, for the key of its place
 abbrev pub IsTable : Format → Canton → List (Option Entry) → Type 0
 IsTable format canton table = (place : ℕ) → IfSome (get_or table place None) (IsHeldAt format canton (key_of place))
 

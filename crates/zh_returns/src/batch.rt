@@ -1,4 +1,4 @@
-//! The batches of the desks: rows are collected and then written as bytes.
+//! The batches of the desks, which collect rows and then write them as bytes, and the numbers of the desks.
 ghost use Rattle.std.specs.Prelude.{◌≡◌, ◌≤◌, ◌++◌, ◌∷◌, [], None, length, OnOk, OnErr, ◌+◌, ◌*◌, ◌<◌, false, MatchOption};
 ghost use Rattle.zh_returns.specs.Numbers.{IsDesk};
 ghost use Rattle.zh_returns.specs.RowFaults.{fault_in};
@@ -49,7 +49,7 @@ impl Batch {
         self.rows.len()
     }
 
-    /// Whether there is a row with this municipality and list. The time does not depend on the number of rows.
+    /// Whether there is a row with this municipality and list. Looks it up in the map, instead of going through the rows.
     pub fn has_key(&self, municipality: u32, list: u32) -> bool
         ensures { result ≡ has_key self.now (municipality, list) }
     {

@@ -16,10 +16,10 @@ use crate::row::{ROW_LENGTH, read_row, write_row};
 use crate::rows::Rows;
 use byteorder::{BigEndian, ByteOrder};
 
-/// The greatest length of a command in bytes: that of a batch of 1,000 rows.
+/// The greatest length of a command in bytes: that of a batch of 1,000 rows in format Two.
 pub(crate) const COMMAND_LENGTH: usize = 11_004;
 
-/// The length of a kind and a desk, in bytes.
+/// The length of a kind and a desk, in bytes, in format Two.
 pub(crate) const HEAD_LENGTH: usize = 2;
 
 /// The length of a municipality, or of the number of rows, in bytes.
@@ -28,7 +28,7 @@ pub(crate) const SHORT_LENGTH: usize = 2;
 /// The length of a withdrawal after its kind and its desk, in bytes.
 pub(crate) const WITHDRAWAL_LENGTH: usize = 7;
 
-/// Writes a command to the front of `out` as docs/FORMATS.md describes it. Returns the number of its bytes.
+/// Writes a command to the front of `out` in format Two, as docs/FORMATS.md describes it. Returns the number of its bytes.
 pub fn encode_command(command: &Command<'_>, out: &mut [u8]) -> usize
     requires fits { FitsCommand command.now }
     requires room { length (command_spelling Format.Two command.now) ≤ length out.old }
@@ -107,7 +107,7 @@ fn write_batch(desk: u8, rows: &Rows<'_>, out: &mut [u8]) -> usize
     end
 }
 
-/// The command that has these bytes in a format, if there is one.
+/// The command that has these bytes in a format, if there is one. In format One its desk is 0.
 pub fn decode_command(bytes: &[u8], format: Format) -> Option<Command<'_>>
     ensures { Decodes (IsSpeakable format) (command_spelling format) bytes.now result }
 {
@@ -168,7 +168,8 @@ impl Withdrawal {
     }
 }
 
-/// The withdrawal that has these bytes, if there is one.
+/// The withdrawal that has these bytes after its kind and its desk. None if there are not 7 bytes, or if the replacement number
+/// is 0.
 fn read_withdrawal(bytes: &[u8]) -> Option<Withdrawal>
     ensures read { IfSome result (λ it. IsWithdrawal it.municipality it.list it.number
         × (to_be_bytes w16 it.municipality ++ (it.list ∷ to_be_bytes w32 it.number) ≡ bytes.now)) }
@@ -191,7 +192,7 @@ fn read_withdrawal(bytes: &[u8]) -> Option<Withdrawal>
     })
 }
 
-/// The number in two bytes. None if there are not two.
+/// The number in two bytes. None if there are not two bytes.
 fn read_short(bytes: &[u8]) -> Option<u32>
     ensures read { IfSome result (λ number. (number < 2 ^ 16) × (to_be_bytes w16 number ≡ bytes.now)) }
     ensures refused { IfNone result (length bytes.now ≢ SHORT_LENGTH) }
@@ -202,7 +203,7 @@ fn read_short(bytes: &[u8]) -> Option<u32>
     Some(BigEndian::read_u16(bytes) as u32)
 }
 
-/// The rows of the batch that has these bytes, if there is one.
+/// The rows of the batch that has these bytes after its kind and its desk, if there is one.
 fn read_batch(bytes: &[u8]) -> Option<Rows<'_>>
     ensures { Decodes IsBatch (λ rows. to_be_bytes w16 (length rows) ++ flat_map row_spelling rows) bytes.now result }
 {

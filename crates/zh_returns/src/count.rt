@@ -29,7 +29,7 @@ pub(crate) fn misplaced_at(setup: &Setup, place: usize) -> Option<Misplaced>
 /// The greatest number of municipalities of a set-up.
 pub(crate) const MUNICIPALITIES: usize = 512;
 
-/// The greatest number of lists in a municipality.
+/// The greatest number of groups of a set-up, and so of lists in a municipality.
 pub(crate) const LISTS: usize = 32;
 
 /// The number of places in the table of entries.
@@ -139,7 +139,7 @@ impl<'s> Count<'s> {
         self.accepted
     }
 
-    /// What is held under a key: nothing, or the entry of a list that stands in that municipality.
+    /// What is held for a list in a municipality. For a list that does not stand there, nothing is.
     pub fn entry(&self, municipality: u32, list: u32) -> Option<Entry>
         requires from_one { 1 ≤ municipality }
         requires there { municipality ≤ length self.now.canton.municipalities }
@@ -188,7 +188,7 @@ impl<'s> Count<'s> {
         }
     }
 
-    /// Replaces what is held under a key with an entry. The list stands in the municipality.
+    /// Replaces what is held under a key with an entry. The list must stand in the municipality.
     pub(crate) fn put(&mut self, municipality: u32, list: u32, entry: Entry)
         requires place { misplaced self.old.canton municipality list ≡ None }
         requires entry { IsEntry entry }

@@ -20,8 +20,8 @@ pub struct Entry {
     pub votes: Option<u32>,
 }
 
-/// Where an entry came from: the desk that set it. Desks have the numbers 1 to 8. Desk 0 means a load, or an entry from before
-/// desks were stored.
+/// Where an entry came from: the desk that set it. Desks have the numbers 1 to 8. Desk 0 is `load`, or the entry comes from
+/// format One, which has no desks.
 #[derive(Clone, Copy, PartialEq, Eq)]
 pub struct Origin {
     pub desk: u8,
@@ -31,14 +31,14 @@ pub struct Origin {
 pub(crate) const ORIGIN_LENGTH: usize = 3;
 
 impl Origin {
-    /// No desk, or a desk that is not known.
+    /// Desk 0: no desk, or a desk that is not known.
     pub(crate) fn no_desk() -> Origin
         ensures { result ≡ no_desk }
     {
         Origin { desk: 0 }
     }
 
-    /// The origin of the entries that a command puts into the count.
+    /// The origin of the entries that a command puts into the count. A closing and a reopening put none; for them it is desk 0.
     pub(crate) fn of(command: &Command<'_>) -> Origin
         ensures { result ≡ origin_of command.now }
     {
@@ -71,7 +71,7 @@ impl Origin {
     }
 }
 
-/// The last desk that a format can name.
+/// The greatest desk number in a format: 0 in format One, which has no desks.
 fn last_desk(format: Format) -> u8
     ensures { result ≡ last_desk format }
 {
@@ -110,7 +110,8 @@ pub(crate) fn write_entry(held: Option<Entry>, out: &mut [u8])
     write_fields(fields_of(held), out);
 }
 
-/// What these bytes spell in a format: nothing, or an entry within its limits. None if they spell neither.
+/// What these bytes spell in a format: `Some(None)` if nothing is held, or an entry within its limits. `None` if they spell
+/// neither.
 #[tactic(auto, unfolding(crate::specs::EntryBytes::entry_spelling))]
 pub(crate) fn read_entry(format: Format, bytes: &[u8]) -> Option<Option<Entry>>
     requires { length bytes.now ≡ ENTRY_LENGTH }
@@ -139,7 +140,7 @@ pub(crate) fn read_entry(format: Format, bytes: &[u8]) -> Option<Option<Entry>>
     }
 }
 
-/// The fields of nothing, or of an entry.
+/// The fields for an entry, or for nothing held.
 fn fields_of(held: Option<Entry>) -> EntryFields
     ensures { result ≡ fields_of held }
 {

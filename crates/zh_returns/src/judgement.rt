@@ -1,4 +1,4 @@
-//! What becomes of a command.
+//! The verdict on a command.
 ghost use Rattle.std.specs.Prelude.{◌≡◌, map};
 ghost use Rattle.zh_returns.specs.Judgement.{against, judge, judge_content, judge_row, judge_close, judge_reopen, is_accept, of_all};
 
@@ -12,17 +12,17 @@ use zh_districts::Misplaced;
 /// Why a command is refused.
 #[derive(Clone, Copy, Debug, PartialEq, Eq)]
 pub enum Reason {
-    /// The set-up has no such municipality.
+    /// The set-up has no municipality with this number.
     Municipality,
     /// The list does not stand in the constituency of the municipality.
     List,
-    /// More than 1,000,000,000 votes.
+    /// There are more than 1,000,000,000 votes.
     Votes,
     /// The municipality is closed.
     Closed,
     /// The replacement number is below the one that is held.
     Stale,
-    /// The replacement number is above the next one.
+    /// The replacement number is above the next one or, if nothing is held, is not 1.
     Gap,
     /// The replacement number is the one that is held, but the content is different.
     Conflict,
@@ -43,16 +43,16 @@ impl From<Misplaced> for Reason {
     }
 }
 
-/// What becomes of a command.
+/// The verdict on a command.
 #[derive(Clone, Copy, Debug, PartialEq, Eq)]
 pub enum Verdict {
     Accept,
-    /// The count already holds it.
+    /// The count already has what the command says.
     Same,
     Refused(Reason),
 }
 
-/// The verdict on a content, that is, votes or None for a withdrawn list, with a replacement number, given what is held.
+/// The verdict on a content (votes, or None for a withdrawn list) with a replacement number, given what is held.
 fn against(held: Option<Entry>, number: u32, content: Option<u32>) -> Verdict
     ensures { result ≡ against held number content }
 {
@@ -70,7 +70,7 @@ fn against(held: Option<Entry>, number: u32, content: Option<u32>) -> Verdict
 impl<'s> Count<'s> {
     /// The verdict on a command, whatever numbers it contains. For a return, the first of these cases decides:
     ///
-    /// 1. The set-up has no such municipality: `Municipality`.
+    /// 1. The set-up has no municipality with this number: `Municipality`.
     /// 2. The list does not stand in the constituency of the municipality: `List`.
     /// 3. It has more than 1,000,000,000 votes: `Votes`.
     /// 4. The municipality is closed: `Closed`.
@@ -79,7 +79,10 @@ impl<'s> Count<'s> {
     ///    `n + 1` is accepted; a higher one is `Gap`. A withdrawn list holds no votes, which differs from 0 votes.
     ///
     /// A withdrawal is judged like a return without votes. The desk makes no difference. Each row of a batch is judged against
-    /// this count. If rows are refused, the batch is refused for the reason of the first one.
+    /// this count. If rows are refused, the batch is refused for the reason of the first one; otherwise it is accepted if a row
+    /// is, and `Same` if none is. A closing or a reopening is refused as `Municipality` if the set-up does not have the
+    /// municipality. Otherwise a closing is `Same` if the municipality is already closed, a reopening is refused as `NotClosed`
+    /// if it is open, and both are accepted in the other case.
     pub fn judge(&self, command: &Command<'_>) -> Verdict
         ensures { result ≡ judge self.now command.now }
     {
@@ -141,14 +144,14 @@ impl<'s> Count<'s> {
         self.judge_content(row.municipality, row.list, row.number, Some(row.votes))
     }
 
-    /// Whether a row is accepted.
+    /// Whether a row would be accepted.
     pub(crate) fn accepts(&self, row: Row) -> bool
         ensures { result ≡ is_accept (judge_row self.now row) }
     {
         self.judge_row(row) == Verdict::Accept
     }
 
-    /// The verdict on a content, that is, votes or None for a withdrawn list, for a key with a replacement number.
+    /// The verdict on a content (votes, or None for a withdrawn list) with a replacement number, for a list in a municipality.
     fn judge_content(
         &self,
         municipality: u32,

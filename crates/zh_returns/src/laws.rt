@@ -17,8 +17,8 @@ ghost use Rattle.zh_returns.specs.Step.{changed, entry_of};
 ghost use Rattle.zh_returns.specs.Tally.{Tally, held};
 ghost use Rattle.zh_returns.specs.declared.command_bytes.TheConstants.{COMMAND_LENGTH};
 
-/// Two counts for one set-up with the same bytes are the same count, in the same format. Every count has the same number of
-/// bytes, and byte 72 says the format. Format Two can spell every count within its limits.
+/// If two counts within their limits, for one set-up, have the same bytes, they are the same count, in the same format. Every
+/// count has the same number of bytes, and byte 72 says the format. Format Two can spell every count within its limits.
 pub fn one_payload()
     ensures length { (format : Format) (tally : Tally) → length (payload_spelling format tally) ≡ payload_length }
     ensures format { (format : Format) (tally : Tally) → slice_get (payload_spelling format tally) 72 ≡ Some (format_byte format) }
@@ -28,7 +28,8 @@ pub fn one_payload()
     ensures said { (tally : Tally) → IsTally tally → IsSaidIn Format.Two tally }
 {}
 
-/// The numbers of an accepted command fit into its bytes, if format Two can name its desk.
+/// If format Two can name the desk of an accepted command, the desk, the municipalities and the lists of the command fit into
+/// its bytes.
 pub fn accepted_fits()
     ensures { (tally : Tally) (command : Command) → IsTally tally → IsOriginOf Format.Two (origin_of command)
         → judge tally command ≡ Accept → FitsCommand command }
@@ -66,7 +67,8 @@ pub fn one_command()
         → command_spelling format a ≡ command_spelling format b → a ≡ b }
 {}
 
-/// A command that is read from bytes of either format fits into format Two and takes no more bytes than a batch of 1,000 rows.
+/// A command that is read from bytes of either format fits into format Two. Its bytes in the format that it was read from are
+/// no more than those of a batch of 1,000 rows in format Two.
 pub fn speakable_fits()
     ensures fits { (format : Format) (command : Command) → IsSpeakable format command → FitsCommand command }
     ensures short { (format : Format) (command : Command) → IsSpeakable format command

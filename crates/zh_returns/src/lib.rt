@@ -1,4 +1,4 @@
-//! The count: what the municipalities returned, what becomes of a command, the batch of a desk, and the bytes of each.
+//! The count: what the municipalities returned, the verdict on a command, the batches of the desks, and the bytes of a count.
 #![tactic(auto)]
 
 mod batch;

@@ -47,7 +47,7 @@ const _: () = prove!(
     PAYLOAD_LENGTH == ACCEPTED_LENGTH + CLOSED_LENGTH + FORMAT_LENGTH + ENTRIES_LENGTH
 );
 
-/// Writes the bytes of format Two.
+/// Writes the byte of format Two and the zeros after it.
 fn write_format(out: &mut [u8])
     requires { length out.old ≡ FORMAT_LENGTH }
     ensures { out.new ≡ format_byte Format.Two ∷ zeros 174 }
@@ -112,8 +112,8 @@ pub(crate) fn write_tables(
     write_entries(entries, table);
 }
 
-/// Fills the tables with the count for the set-up that has these bytes. Returns how many commands it accepted, or None if there
-/// is no such count; the contents of the tables are then unspecified.
+/// Fills the tables with the count for this set-up that has these bytes in one of the formats. Returns the number of accepted
+/// commands. If no count has these bytes, returns None; the contents of the tables are then unspecified.
 pub(crate) fn read_tables(
     setup: &Setup,
     bytes: &[u8],
@@ -181,7 +181,8 @@ pub(crate) fn read_entries(
     true
 }
 
-/// What these bytes spell in a format for a place. None if that cannot be held there.
+/// What these bytes spell in a format: `Some(None)` if nothing is held, or an entry that can be held at this place. `None` if
+/// they spell neither.
 fn read_held(setup: &Setup, format: Format, place: usize, bytes: &[u8]) -> Option<Option<Entry>>
     requires length { length bytes.now ≡ ENTRY_LENGTH }
     requires place { place < PLACES }

@@ -12,7 +12,7 @@ use byteorder::{BigEndian, ByteOrder};
 use thiserror::Error;
 use zh_districts::Setup;
 
-/// A return of one list in one municipality: its votes, with a replacement number that starts at 1.
+/// A return of one list in one municipality: its votes and its replacement number, of which the first is 1.
 #[derive(Clone, Copy)]
 pub struct Row {
     pub municipality: u32,
@@ -46,8 +46,8 @@ impl RowFault {
     }
 }
 
-/// Why no batch may contain a row: the first reason that applies. The set-up has no such municipality, the list does not stand
-/// in its constituency, or there are more votes than a return may have. None if a batch may contain the row.
+/// Why a row is refused whatever the batch contains: the first of `Municipality`, `List` and `Votes` that applies. None if none
+/// of them does. The replacement number plays no part.
 pub fn unfit(setup: &Setup, row: Row) -> Option<Reason>
     ensures first { result ≡ unfit setup.now row }
     ensures fits { IfNone result (FitsRow row) }
@@ -58,7 +58,7 @@ pub fn unfit(setup: &Setup, row: Row) -> Option<Reason>
     if row.votes > MOST_VOTES {
         return Some(Reason::Votes);
     }
-    // So a row that a batch may contain fits into its bytes.
+    // So the municipality and the list fit into the bytes of a row.
     let is_small = setup.municipalities() <= 512 && setup.groups() <= 32;
     prove!(is_small);
     None
@@ -93,7 +93,7 @@ pub(crate) fn row_of(bytes: &[u8]) -> Row
     }
 }
 
-/// The row that has these bytes, if there is one.
+/// The row that these bytes spell. None if there are not 11 bytes, or if the replacement number is 0.
 pub(crate) fn read_row(bytes: &[u8]) -> Option<Row>
     ensures { Decodes IsSpeakableRow row_spelling bytes.now result }
 {

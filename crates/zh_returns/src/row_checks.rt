@@ -1,4 +1,4 @@
-//! The conditions that rows must meet to be a batch.
+//! Two conditions that the rows of a batch must meet: replacement numbers from 1 on, and no key twice.
 ghost use Rattle.std.specs.List.{IsDistinct};
 ghost use Rattle.std.specs.Ordering.{eq_by_cmp};
 ghost use Rattle.std.specs.Prelude.{◌≡◌, ◌↔◌, ◌*◌, ◌/◌, ◌≤◌, length, map, true, All, ◌||◌, ◌&&◌, ◌==◌, ℕ, ◌+◌, ◌<◌, not, slice_index};
@@ -23,8 +23,8 @@ pub(crate) fn are_numbered(bytes: &[u8]) -> bool
     true
 }
 
-/// Whether no two rows have the same key. The tables take 160 KiB of the stack, which only the check of a batch should need; so
-/// the function is not inlined.
+/// Whether no two rows have the same key. The tables take about 160 KiB of the stack. Only the check of a batch should need
+/// them, so the function is not inlined.
 #[inline(never)]
 pub(crate) fn have_own_keys(bytes: &[u8]) -> bool
     requires { length bytes.now / ROW_LENGTH ≤ MOST_ROWS }
@@ -42,7 +42,8 @@ pub(crate) fn have_own_keys(bytes: &[u8]) -> bool
     true
 }
 
-/// The number of municipalities that a key can name. Each has the number of a block in which its keys are marked, or 0.
+/// The number of municipalities that a key can name, in two bytes. For each of them a table has the number of the block in
+/// which its keys are marked, counted from 1, or 0 if it has no block.
 pub(crate) const MUNICIPALITIES: usize = 65_536;
 
 /// The number of places in a block, one for each list that a key can name.
@@ -65,7 +66,8 @@ pub(crate) fn no_marks<const N: usize>() -> [u8; N]
     [0; N]
 }
 
-/// Inserts a key into the set and returns whether it was not there before.
+/// Inserts a key into the set and returns whether it was not there before. Only the first `count` blocks are in use before the
+/// call.
 pub(crate) fn insert_key(
     blocks: &mut [u16],
     marks: &mut [u8],

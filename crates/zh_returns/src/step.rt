@@ -16,8 +16,8 @@ use crate::row::Row;
 use crate::rows::Rows;
 
 impl<'s> Count<'s> {
-    /// Applies an accepted command to the count and counts it. The entries that it puts into the count have its origin. Of a
-    /// batch, only the accepted rows are put.
+    /// Applies an accepted command to the count and adds 1 to the number of accepted commands. The entries that it puts into the
+    /// count have its origin. Of a batch, only the accepted rows are put.
     pub fn apply(&mut self, command: &Command<'_>)
         requires origin { IsOriginOf Format.Two (origin_of command.now) }
         requires accept { judge self.old command.now ≡ Accept }
@@ -47,7 +47,7 @@ impl<'s> Count<'s> {
         self.count_accepted();
     }
 
-    /// Puts the entries of the accepted rows into the count. The other rows are already held.
+    /// Puts the entries of the accepted rows into the count. It already has what the other rows say.
     fn put_rows(&mut self, origin: Origin, rows: &Rows<'_>)
         requires origin { IsOriginOf Format.Two origin }
         requires accept { of_all (map (judge_row self.old) rows.now) ≡ Accept }

@@ -16,12 +16,12 @@ infixl 10 ◌>>=◌
 abbrev pub ◌>>=◌ : {A B : Type 0} → Option A → (A → Option B) → Option B
 o >>= f = option_and_then f o
 
--- a whole number from low to high
+-- the value as a number, if it is a whole number from low to high
 abbrev pub number_within : ℕ → ℕ → Data → Option ℕ
 number_within low high (integer (pos n)) = if nat_le low n && nat_le n high then Some n else None
 number_within low high _ = None
 
--- a text that is a name
+-- the value as a text, if it is a text that is a name
 abbrev pub name_of : Data → Option (List ℕ)
 name_of (string text) = if is_name text then Some text else None
 name_of _ = None
@@ -72,7 +72,7 @@ group_from constituencies value = do
   numbers ← each (number_within 1 constituencies) values
   Some (record { name = name; stands = stands_of constituencies numbers })
 
--- a canton-wide quorum in per mille, which is optional
+-- a canton-wide quorum in per mille, 1 to 49, which is optional
 abbrev pub quorum_of : Option Data → Option (Option ℕ)
 quorum_of None = Some None
 quorum_of (Some value) = do
@@ -101,7 +101,7 @@ abbrev pub repeats : (Data → Data → Bool) → List Data → Bool
 repeats same [] = false
 repeats same (value ∷ values) = list_any (same value) values || repeats same values
 
--- the name in a table, or nothing if it has none
+-- the name in a table, or the empty text if it has none
 abbrev pub name_in : Data → List ℕ
 name_in value = unwrap_or (get (codes "name") value >>= as_str) []
 

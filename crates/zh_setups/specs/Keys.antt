@@ -19,7 +19,8 @@ list_of (item value values) = value ∷ list_of values
 abbrev pub is_table : Data → Bool
 is_table value = is_some (as_table value)
 
--- the tables in an array of tables; any other value gives none, for example an array with one value that is not a table
+-- the tables in an array of tables; for any other value the list is empty, for example for an array with one value that is not
+-- a table
 abbrev pub tables_of : Data → List Data
 tables_of value = option_map_or (λ items. if list_all is_table (list_of items) then list_of items else []) (as_array value) []
 
@@ -41,7 +42,7 @@ abbrev pub first_other : List (List ℕ) → Members → Option (List ℕ)
 first_other keys no_members = None
 first_other keys (member key _ others) = if list_any (λ known. bytes_eq known key) keys then first_other keys others else Some key
 
--- the same of a table; a value of another type has no keys
+-- each key of a table is in this list; a value of another type has no keys
 abbrev pub knows_keys_of : List (List ℕ) → Data → Bool
 knows_keys_of keys value = option_map_or (knows_keys keys) (as_table value) true
 

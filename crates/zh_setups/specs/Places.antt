@@ -22,7 +22,7 @@ abbrev pub first_failing : List (Key × Bool) → Option Key
 first_failing [] = None
 first_failing (check ∷ checks) = if check.1 then first_failing checks else Some check.0
 
--- the key of a refusal for an unknown key
+-- an unknown key as a refusal names it; if there is none, the name is empty
 abbrev pub other_key : Option (List ℕ) → Key
 other_key found = keys.Other (cut_key (unwrap_or found []))
 
@@ -30,11 +30,11 @@ other_key found = keys.Other (cut_key (unwrap_or found []))
 abbrev pub number_at_top : List ℕ → ℕ → ℕ → Members → Bool
 number_at_top key low high document = is_some (get_member key document >>= number_within low high)
 
--- each of these values is the number of a constituency, 1 to n
+-- each of these values is the number of one of n constituencies
 abbrev pub are_within : ℕ → List Data → Bool
 are_within n values = list_all (λ value. is_some (number_within 1 n value)) values
 
--- a group's `stands` is a non-empty array of such numbers
+-- a group's `stands` is a non-empty array of numbers of constituencies, of which there are n
 abbrev pub stands_within : ℕ → Data → Bool
 stands_within n value = option_map_or (are_within n) (get (codes "stands") value >>= values_of) false
 
@@ -79,13 +79,14 @@ table_checks faults.Unknown kind n value =
 table_checks faults.Double kind n value = double_checks kind value
 table_checks fault kind n value = []
 
--- the first of these tables with a key that `key` finds; the first table has this number
+-- the first of these tables in which `key` finds a key; the first table has this number
 abbrev pub first_table : (Data → Option Key) → Kind → ℕ → List Data → Option FaultPlace
 first_table key kind number [] = None
 first_table key kind number (value ∷ values) =
     option_map_or (λ found. Some (places.Table kind number found)) (key value) (first_table key kind (number + 1) values)
 
--- the first of these tables that has the same name as an earlier one; the first table has this number
+-- the first of these tables that has the same name as an earlier one, or as one of those in `before`; the first table has this
+-- number
 abbrev pub first_namesake : Kind → ℕ → List Data → List Data → Option FaultPlace
 first_namesake kind number before [] = None
 first_namesake kind number before (value ∷ values) =
@@ -97,11 +98,11 @@ abbrev pub namesake_of : SetupFault → Kind → List Data → Option FaultPlace
 namesake_of faults.Double kind values = first_namesake kind 1 [] values
 namesake_of fault kind values = None
 
--- the values of the non-empty array at a key; anything else gives none
+-- the values of the array at a key of the document, or the empty list if there is no array
 abbrev pub values_under : List ℕ → Members → List Data
 values_under key document = unwrap_or (get_member key document >>= values_of) []
 
--- the number of constituencies, at most 32
+-- the number of values in the array of constituencies, or 32 if there are more
 abbrev pub constituencies_in : Members → ℕ
 constituencies_in document = min (length (values_under (codes "constituency") document)) 32
 
@@ -116,7 +117,7 @@ first_of fault kind key document =
     (first_table (λ value. first_failing (table_checks fault kind (constituencies_in document) value)) kind 1
     (looked_into fault key document))
 
--- the place of this fault in a document
+-- the place of this fault in a document: at the top, or else in the first kind of table that has it
 abbrev pub fault_place : SetupFault → Members → Option FaultPlace
 fault_place fault document =
     option_or (option_map places.Top (first_failing (top_checks fault document)))

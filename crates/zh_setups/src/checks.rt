@@ -83,7 +83,7 @@ fn stands_within(group: &Value, constituencies: u32) -> bool
     }
 }
 
-/// The key of a refusal for an unknown key.
+/// An unknown key as a refusal names it. If there is none, the name is empty.
 fn other_key(found: Option<&str>) -> Key
     ensures { result ≡ other_key (option_copied found.entry) }
 {
@@ -185,7 +185,7 @@ fn key_out_of_range(value: &Value, kind: Kind, constituencies: u32) -> Option<Ke
     first_failing(&[named, range_check(value, kind, constituencies)])
 }
 
-/// The key `stands` of a group that names a constituency twice. Other tables have no such key.
+/// The key `stands`, if the table is a group that names a constituency twice.
 fn key_of_double(value: &Value, kind: Kind) -> Option<Key>
     ensures { result ≡ first_failing (double_checks kind (view value.now)) }
 {
@@ -195,7 +195,7 @@ fn key_of_double(value: &Value, kind: Kind) -> Option<Key>
     }
 }
 
-/// The first key of a table with this fault, if there is one.
+/// The first key of a table with this fault, if there is one. A name that an earlier table has is not looked for.
 pub(crate) fn table_key(
     value: &Value,
     fault: SetupFault,

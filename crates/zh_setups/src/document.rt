@@ -23,7 +23,7 @@ fn number_in_range(document: &Table, key: &str, low: u32, high: u32) -> Result<u
     number(value, low, high).ok_or(SetupFault::Range)
 }
 
-/// The document's canton-wide quorum in per mille, 1 to 49, or `None` if it has none.
+/// The document's canton-wide quorum in per mille, 1 to 49, or `None` if it has none. Another value is `Range`.
 fn read_quorum(document: &Table) -> Result<Option<u32>, SetupFault>
     ensures { GivesInRange (λ q. q) result (quorum_of (get_member (codes "canton_quorum") (table_view document.now))) }
 {
@@ -36,7 +36,7 @@ fn read_quorum(document: &Table) -> Result<Option<u32>, SetupFault>
     }
 }
 
-/// The parts of a set-up, if every value has the right type and is within its limits.
+/// The parts of a set-up, if every value has the right type and is within its limits; otherwise `Range`.
 fn read_draft(alloc: Global, document: &Table) -> Result<Draft, SetupFault>
     ensures { GivesInRange draft result (setup_of (table_view document.now)) }
 {

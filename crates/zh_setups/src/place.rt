@@ -174,7 +174,7 @@ fn namesake_of(values: &[Value], fault: SetupFault, kind: Kind) -> Option<FaultP
     }
 }
 
-/// The values of the non-empty array at a key. Anything else gives none.
+/// The values of the array at a key of the document. If there is no array, the slice is empty.
 fn values_under<'a>(document: &'a Table, key: &str) -> &'a [Value]
     ensures { map view result.now ≡ values_under key.now (table_view document.now) }
 {
@@ -187,7 +187,7 @@ fn values_under<'a>(document: &'a Table, key: &str) -> &'a [Value]
     }
 }
 
-/// The number of constituencies, at most 32.
+/// The number of values in the array of constituencies, or 32 if there are more.
 fn constituencies_in(document: &Table) -> u32
     ensures { result ≡ constituencies_in (table_view document.now) }
 {
@@ -205,7 +205,8 @@ fn looked_into<'a>(document: &'a Table, fault: SetupFault, key: &str) -> &'a [Va
     }
 }
 
-/// The first of the values at a key that has this fault.
+/// The first of the values at a key that has this fault. For `Double`, a name that an earlier table has comes before a `stands`
+/// that names a constituency twice.
 fn first_of(document: &Table, fault: SetupFault, kind: Kind, key: &str) -> Option<FaultPlace>
     ensures { result ≡ first_of fault kind key.now (table_view document.now) }
 {
@@ -214,7 +215,7 @@ fn first_of(document: &Table, fault: SetupFault, kind: Kind, key: &str) -> Optio
     namesake_of(values, fault, kind).or(first_table(values, fault, kind, constituencies))
 }
 
-/// The place of this fault in a document.
+/// The place of this fault in a document. None if no key has it.
 pub(crate) fn fault_place(document: &Table, fault: SetupFault) -> Option<FaultPlace>
     ensures { result ≡ fault_place fault (table_view document.now) }
 {

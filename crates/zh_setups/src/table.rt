@@ -116,8 +116,8 @@ fn are_tables(values: &[Value]) -> bool
     true
 }
 
-/// The tables in an array of tables. Any other value gives none, for example an array with one value that is not a
-/// table.
+/// The tables in an array of tables. For any other value the slice is empty, for example for an array with one value that is
+/// not a table.
 fn tables(value: &Value) -> &[Value]
     ensures { map view result.now ≡ tables_of (view value.now) }
 {
@@ -127,7 +127,7 @@ fn tables(value: &Value) -> &[Value]
     }
 }
 
-/// The tables in the array of tables at a key of the document.
+/// The tables in the array of tables at a key of the document. If there is no such array, the slice is empty.
 pub(crate) fn tables_at<'a>(document: &'a Table, key: &str) -> &'a [Value]
     ensures { map view result.now ≡ tables_at key.now (table_view document.now) }
 {

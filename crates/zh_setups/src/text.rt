@@ -59,7 +59,7 @@ fn refusal_of(error: &Error, text: &[u8]) -> SetupRefusal
 /// `constituency`, `municipality` and `group`, and in version 2 optionally `canton_quorum`.
 ///
 /// The checks run in the order of the variants of `SetupFault`, each over the whole document. A refusal names the first
-/// fault and, if known, its place. `Memory` can come at any time, when an allocation is refused.
+/// fault and its place; `Memory` and a text that is too long have no place. `Memory` can come at any time.
 pub fn read_setup(alloc: Global, text: &[u8]) -> Result<Setup, SetupRefusal>
     ensures set_up { IfOk result (λ setup. reading_of text.now ≡ Ok setup) }
     ensures table { IfOk result (Describes text.now) }
@@ -92,7 +92,7 @@ pub enum SetupFault {
     Missing,
     /// There is an unknown key, at the top or in a table.
     Unknown,
-    /// A value has the wrong type or is outside its limits.
+    /// A value has the wrong type or is outside its limits, a name breaks its rule, or a constituency does not exist.
     Range,
     /// Two constituencies, two municipalities or two groups share a name, or a group names a constituency twice.
     Double,

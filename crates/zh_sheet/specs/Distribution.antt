@@ -41,7 +41,7 @@ pub record Targets (totals : VoteTotals) : Type 0 where
 abbrev pub seated_groups : List ℕ → List ℕ
 seated_groups upper = filter (λ g. nat_lt 0 (slice_index upper (g - 1))) (range_with_len 1 (length upper))
 
--- the lower apportionment: constituencies in rows, seated groups in columns
+-- the question for the lower apportionment: constituencies in rows, seated groups in columns
 abbrev pub lower_question : VoteTotals → List ℕ → List ℕ → Question
 lower_question totals seats upper = record {
   rows = length totals.canton.constituencies;
@@ -55,8 +55,8 @@ lower_question totals seats upper = record {
 abbrev pub question_of : Distribution → Question
 question_of x = lower_question x.totals x.seats.seats x.upper.seats
 
--- each part follows from the parts before it, and the seats of the lists follow from divisors in millionths, with no quotient
--- on a half
+-- each part follows from the parts before it, and the seats of the lists follow from divisors in millionths, which are within
+-- the limits of a sheet, with no quotient on a half
 pub record IsDistribution (x : Distribution) : Type 0 where
   pub totals : AreTotals x.totals
   pub seats : HaveSeats x.totals x.seats.seats

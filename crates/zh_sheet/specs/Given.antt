@@ -37,7 +37,7 @@ pub record IsGiven (totals : VoteTotals) (lists : SeatMatrix) (sheet : Option Di
   pub meets : IfSome sheet IsPublished
   pub every : (x : Distribution) → IsPublished x → x.totals ≡ totals → x.lower ≡ lists → sheet ≡ Some x
 
--- two distributions have the same seats of the constituencies, of the groups and of the lists
+-- two distributions have the same seats of the constituencies, of the groups and of the lists, and the same two keys
 pub record HaveSameSeats (one other : Distribution) : Type 0 where
   pub constituencies : other.seats ≡ one.seats
   pub groups : other.upper ≡ one.upper

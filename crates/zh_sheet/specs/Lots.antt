@@ -39,8 +39,8 @@ IsForTheLot (refusals.NoUpperSeats Tied) = Unit {0}
 IsForTheLot (refusals.TiedLower d g) = Unit {0}
 IsForTheLot refusal = ⊥
 
--- what the lot decides: between constituencies to which a seat is worth as much as to another, or the seats of groups or lists
--- within these ranges
+-- what the lot decides between: the constituencies that are tied, which are marked, or the seats of the groups or of the lists,
+-- with the fewest and the most of each
 abbrev pub IsLotOf : VoteTotals → SheetRefusal → Lot → Type 0
 IsLotOf totals refusals.TiedSeats (Constituencies marks) =
     Tell (IsTiedIn totals.canton) (length totals.canton.constituencies) marks.items

@@ -21,7 +21,7 @@ use Rattle.zh_sheet.specs.declared.fault.SheetFault.TheVariants.{Memory, Refused
 use Rattle.zh_sheet.specs.declared.fault.SheetRefusal.TheVariants as refusals
 use Rattle.zh_sheet.specs.declared.list_question.ListQuestion.{ListQuestion}
 
--- the faults of a sheet for the faults of the parts below
+-- the fault of a sheet for a fault of the seats of the constituencies and, below, of the upper seats
 abbrev pub of_seats : SeatFault → SheetFault
 of_seats seat_faults.Memory = Memory
 of_seats seat_faults.Tied = Refused refusals.TiedSeats
@@ -31,8 +31,8 @@ abbrev pub of_upper : UpperFault → SheetFault
 of_upper upper_faults.Memory = Memory
 of_upper (upper_faults.Refused refusal) = Refused (refusals.NoUpperSeats refusal)
 
--- the seats of the constituencies and of the groups follow from the rest of `above`, and no case before those of the lists
--- holds
+-- `above` has the seats of the constituencies and of the groups for these totals, with what they follow from; no case before
+-- those of the lists holds
 pub record StandAbove (totals : VoteTotals) (above : Above) : Type 0 where
   pub constituencies : HaveSeats totals above.seats.seats
   pub seats_key : HasDivisor (persons totals.canton) above.seats

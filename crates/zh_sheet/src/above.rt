@@ -18,7 +18,8 @@ pub(crate) struct Above {
     pub upper: Upper,
 }
 
-/// The seats of the constituencies and of the groups for these totals, or the first reason why there are none.
+/// The seats of the constituencies and of the groups for these totals, or the first reason why there are none. `Memory` can
+/// come in place of either.
 pub(crate) fn seats_above(alloc: Global, totals: &Totals<'_>) -> Result<Above, SheetFault>
     ensures { IsAboveLists (StandAbove totals.now) totals.now result }
 {

@@ -65,16 +65,16 @@ impl From<UpperFault> for SheetFault {
 pub enum SheetRefusal {
     /// A seat of the house is worth as much to one constituency as to another.
     TiedSeats,
-    /// This constituency is the first that gets no seat.
+    /// The number of the first constituency that gets no seat.
     NoSeat(u32),
     /// The groups get no seats, for this reason.
     NoUpperSeats(UpperRefusal),
-    /// This constituency is the first in which the groups with seats have no votes.
+    /// The number of the first constituency in which the groups with upper seats have no votes.
     NoVotes(u32),
-    /// Two different distributions follow from the same divisors. The first quotient on a half is that of this constituency and
-    /// group.
+    /// The seats of the lists are tied: two different matrices follow from the same divisors, with halves rounded either way. The
+    /// first quotient on a half is that of this constituency and this group.
     TiedLower(u32, u32),
-    /// The search found neither seats nor a tie, and the decision gave no seats either.
+    /// The search found neither seats nor a tie, and the decision gave no divisors for a sheet either.
     Exhausted,
 }
 

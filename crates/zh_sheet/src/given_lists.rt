@@ -89,7 +89,8 @@ fn do_follow(
         )
 }
 
-/// The sheet with these seats and divisors of the lists. None if they do not follow from what is asked.
+/// The sheet with these seats and divisors of the lists. None if the divisors are not within the limits, or if the seats do not
+/// follow from them.
 fn with_given<'s>(
     alloc: Global,
     totals: &Totals<'s>,
@@ -111,7 +112,8 @@ fn with_given<'s>(
 }
 
 /// The sheet of these totals with these seats of the lists and these divisors. None if they are not a distribution of these
-/// totals. There is no search: any divisors will do that give the seats with no quotient on a half. Fails if memory is refused.
+/// totals. There is no search: any divisors within the limits will do if they give the seats with no quotient on a half. Fails
+/// if memory is refused.
 ///
 /// `seats` are those of the groups with seats in the whole canton, constituency by constituency. Divisors are in millionths: 1
 /// to 10^18 for each constituency, and 1 to 10^12 for each of those groups. If a list has votes where it does not stand, there

@@ -1,4 +1,4 @@
-//! The question for the lower apportionment: constituencies in rows, and seated groups in columns.
+//! The question for the lower apportionment: constituencies in rows, and seated groups (those with upper seats) in columns.
 ghost use Rattle.std.specs.List.{range_with_len};
 ghost use Rattle.std.specs.Prelude.{◌≡◌, ◌-◌, ◌≤◌, length, IfOk, ◌^◌, ◌++◌, ◌==◌, All, OnOk, flat_map, map, position};
 ghost use Rattle.std.specs.Prelude.{slice_index};
@@ -27,7 +27,8 @@ pub(crate) struct ListQuestion {
 impl ListQuestion {
     ghost use Rattle.zh_matrices.specs.Asked.{asked};
 
-    /// The question for these totals, or the first reason why constituencies or groups get no seats.
+    /// The question for these totals, or the first reason why constituencies or groups get no seats. `Memory` can come in place
+    /// of either.
     pub fn of(alloc: Global, totals: &Totals<'_>) -> Result<ListQuestion, SheetFault>
         ensures { IsAboveLists (IsAsked totals.now) totals.now result }
     {

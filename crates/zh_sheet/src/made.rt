@@ -1,4 +1,4 @@
-//! Makes sheets from the totals of a count.
+//! The sheet of the totals of a count.
 ghost use Rattle.std.specs.Prelude.{IfErr};
 ghost use Rattle.zh_sheet.specs.Made.{IsMade};
 ghost use Rattle.zh_sheet.specs.Reasons.{HaveNoSheet, sheet_or_fault};
@@ -27,11 +27,11 @@ pub fn make_or_reason<'s>(alloc: Global, totals: &Totals<'s>) -> Result<Sheet<'s
 
 /// The sheet of these totals, or why there is none: the first case that holds decides, in the order of `SheetRefusal`.
 ///
-/// No divisors of any scale give other seats. The divisors are those of the first state of the search (docs/DEFINITIONS.md)
-/// that gives seats. If none does, they are the middle of those that give the seats, or else those of the decision, made easier
-/// to read if possible. So the same votes have only one sheet. If the seats of the lists are tied, no divisors give seats
-/// without a quotient on a half. `Exhausted` is returned only if no state of the search gives seats or is tied, and the
-/// decision gives no seats either. `Memory` can be returned in place of every answer.
+/// No divisors of any scale give other seats. The divisors are those of the first state of the search that gives seats. If
+/// none does, the decision finds them (docs/DEFINITIONS.md, "How divisors are found"). Both depend only on the votes and the
+/// set-up, so the same votes have only one sheet. If the seats of the lists are tied, no divisors give seats without a
+/// quotient on a half. `Exhausted` is returned only if no state of the search gives seats or is tied, and the decision gives
+/// no divisors in millionths either. `Memory` can be returned in place of every answer.
 pub fn make<'s>(alloc: Global, totals: &Totals<'s>) -> Result<Sheet<'s>, SheetFault>
     ensures { IsMade totals.now result }
 {

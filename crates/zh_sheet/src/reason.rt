@@ -15,13 +15,14 @@ use zh_decided::{Decision, MarkedRows};
 use zh_lower::{Decided, NoLower, Tie};
 use zh_totals::Totals;
 
-/// Why neither the search nor the decision found seats of the lists. Constituencies and groups are numbered as in the set-up.
+/// Why neither the search nor the decision found divisors for a sheet. Constituencies and groups are numbered as in the set-up.
 #[derive(Drop)]
 pub enum ExhaustedReason {
     /// The seated groups with votes in these constituencies together have fewer seats than the constituencies, so no seats
     /// follow from any divisors.
     Impossible(MarkedRows),
-    /// Two different distributions nearly follow from the same divisors. They differ first in this constituency and this group.
+    /// Two different matrices follow from the same divisors, if quotients near a half (within the factor 1 + 2^-17) can be rounded
+    /// either way. They differ first in this constituency and this group.
     NearlyTied(u32, u32),
     /// These are the only seats, but no divisors in millionths give any, if those of groups are from 1.05 to 999,900 and those
     /// of constituencies from 1.05 to 999,900,000,000.
@@ -42,7 +43,7 @@ pub enum NoSheet {
     Fault(SheetFault),
     /// The seats of the lists are tied, first in this constituency and this group.
     Tied(u32, u32, ListTie),
-    /// The search for the seats of the lists found neither seats nor a tie, and the decision found none, for this reason.
+    /// The search found neither seats of the lists nor a tie, and the decision gave no divisors for a sheet, for this reason.
     Exhausted(ExhaustedReason),
 }
 
@@ -81,7 +82,7 @@ impl From<NoSheet> for SheetFault {
     }
 }
 
-/// The reason that a decision gives, if the columns are the groups that were asked for.
+/// The reason that a decision gives for the question that was asked, with constituencies and groups numbered as in the set-up.
 fn reason_of(constituencies: u32, asked: ListQuestion, decided: Decided) -> ExhaustedReason
     requires rows { constituencies ≡ asked.matrix.rows }
     requires columns { length asked.seated.items ≡ asked.matrix.columns }

@@ -38,7 +38,7 @@ abbrev pub exceeds : Tally → List ℕ → ℕ → ℕ → Bool
 exceeds tally seats m list =
     nat_lt (most_in tally.canton seats (constituency_of tally.canton m)) (entry_votes (held tally m list))
 
--- whether votes are more than ten times those of the others; there must be others, and each must have a return
+-- whether votes are more than ten times those of the others; there must be others, and each must have a return or a withdrawal
 abbrev pub outweighs : ℕ → Progress → Bool
 outweighs votes others =
     nat_lt 0 others.municipalities && (others.begun == others.municipalities) && nat_lt (10 * others.votes) votes
@@ -71,7 +71,7 @@ outweighing_row tally m =
     (10 * (neighbours tally m).votes) (name_of_municipality tally.canton m) []
     else []
 
--- the records of both kinds, by municipality
+-- the records of both kinds of a municipality and, below, of all municipalities, in order
 abbrev pub implausible_in : Tally → Result Apportionment SeatFault → ℕ → List ℕ
 implausible_in tally found m = exceeding_in tally found m ++ outweighing_row tally m
 

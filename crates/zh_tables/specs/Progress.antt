@@ -19,7 +19,7 @@ abbrev pub entry_votes : Option Entry → ℕ
 entry_votes None = 0
 entry_votes (Some entry) = unwrap_or entry.votes 0
 
--- the numbers of the lists, and of the municipalities
+-- the numbers of the lists and, below, of the municipalities
 abbrev pub lists : Canton → List ℕ
 lists canton = range_with_len 1 (length canton.groups)
 

@@ -29,11 +29,11 @@ is_in canton (parts.Constituency d) m = constituency_of canton m == d
 abbrev pub returns_within : Canton → Part → ℕ → List Due
 returns_within canton part m = if is_in canton part m then returns_in canton m else []
 
--- the returns that are due in a part of the set-up, by municipality
+-- the returns that are due in a part of the set-up, by municipality and list
 abbrev pub returns_due : Canton → Part → List Due
 returns_due canton part = each_to (length canton.municipalities) (returns_within canton part)
 
--- the names of the columns of their table
+-- the names of the columns of the table of returns
 abbrev pub return_columns : TableRecord
 return_columns = codes "municipality" ∷ codes "list" ∷ codes "number" ∷ codes "votes" ∷ []
 

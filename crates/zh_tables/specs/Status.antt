@@ -20,7 +20,8 @@ columns Implausible =
     codes "municipality" ∷ codes "list" ∷ codes "votes" ∷ codes "limit" ∷ codes "municipality_name" ∷ codes "list_name" ∷ []
 columns view = codes "number" ∷ codes "held" ∷ codes "due" ∷ codes "state" ∷ codes "votes" ∷ codes "name" ∷ []
 
--- the state in one word: whether all of the municipalities are closed, or there are none, as a constituency can have none
+-- the state in one word: `empty` if there are no municipalities, as a constituency can have none; `closed` if all of them are
+-- closed; otherwise `open`
 abbrev pub state_of : Progress → List ℕ
 state_of p =
     if p.municipalities == 0 then codes "empty" else (if p.closed == p.municipalities then codes "closed" else codes "open")

@@ -114,7 +114,7 @@ pub(crate) fn returns_due(alloc: Global, setup: &Setup, part: Part) -> Result<Ve
     Ok(due)
 }
 
-/// Whether a table has more returns than one `load` takes.
+/// Whether a table has more returns than one `load` takes. Fails if memory is refused.
 pub fn exceeds_load(alloc: Global, setup: &Setup, table: Table) -> Result<bool, AllocError>
     ensures { IfOk result (λ exceeds. exceeds ≡ exceeds_load setup.now table) }
 {

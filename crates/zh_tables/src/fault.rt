@@ -23,7 +23,7 @@ pub enum ListFault {
     NoConstituency(u32),
     /// An allocation was refused.
     Memory,
-    /// The writer failed or accepted zero bytes.
+    /// A record was not written in full, for a reason other than refused memory (`RecordFault::Write`).
     Write,
 }
 

@@ -21,7 +21,7 @@ use zh_text::{push, push_name};
 /// The seats of the constituencies, or why they get none. The reason is never `Memory`.
 pub(crate) type Found = Result<Shares, SeatFault>;
 
-/// The seats of the constituencies of a set-up, or why they get none.
+/// The seats of the constituencies of a set-up, or why they get none. Fails if memory is refused.
 pub(crate) fn found_seats(alloc: Global, setup: &Setup) -> Result<Found, AllocError>
     ensures { IfOk result (AreFound setup.now) }
 {
@@ -31,7 +31,7 @@ pub(crate) fn found_seats(alloc: Global, setup: &Setup) -> Result<Found, AllocEr
     }
 }
 
-/// Writes a line that says why votes are not compared with persons, if they are not.
+/// If the constituencies get no seats, appends a line that says why votes are not compared with persons.
 pub(crate) fn push_note(text: &mut Said, found: &Found)
     requires { text.old.items ≡ [] }
     ensures note { text.new.items ≡ found_note found.now }
@@ -147,7 +147,8 @@ fn write_each_exceeding<W: Write + Drop>(
     write_each(writer, &exceeding)
 }
 
-/// Whether `votes` are more than ten times those of the others. There must be others, and each must have a return.
+/// Whether `votes` are more than ten times those of the others. There must be others, and each must have a return or a
+/// withdrawal.
 fn outweighs(votes: u64, others: &Progress) -> bool
     requires { AreFew 512 others.now }
     ensures { result ≡ outweighs votes others.now }

@@ -1,4 +1,4 @@
-//! Tables of a set-up, and of how far its returns have come in, as comma-separated text: constituencies with their seats,
+//! Tables of a set-up, and of how many of its returns are in, as comma-separated text: constituencies with their seats,
 //! municipalities, groups, lists, the returns that are due or missing, implausible votes, and what keeps the set-up from ever
 //! giving seats.
 #![tactic(auto)]

@@ -17,7 +17,7 @@ pub(crate) struct Progress {
     /// The votes of the returns that are held.
     pub votes: u64,
     pub municipalities: u32,
-    /// How many of the municipalities have a return.
+    /// How many of the municipalities have a return or a withdrawal.
     pub begun: u32,
     /// How many of the municipalities are closed.
     pub closed: u32,

@@ -175,8 +175,8 @@ pub fn write_status<W: Write + Drop>(
     }
 }
 
-/// The state in one word: whether all of the municipalities are closed, or there are none, as a constituency can have
-/// none.
+/// The state in one word: `empty` if there are no municipalities, as a constituency can have none; `closed` if all of them are
+/// closed; otherwise `open`.
 fn state_of(progress: &Progress) -> &str
     ensures { result.now ≡ state_of progress.now }
 {

@@ -36,9 +36,9 @@ pub enum Table {
     Groups,
     /// Each list that stands: a group in a constituency.
     Lists,
-    /// The problems that keep each constituency from ever getting or giving seats.
+    /// Each constituency with a problem that keeps the set-up from ever giving seats, and the problem.
     Problems,
-    /// The returns that are due in a part of the set-up. With their votes filled in, they can be loaded.
+    /// The returns that are due in a part of the set-up. With their votes filled in, up to 1,000 of them can be loaded.
     Returns(Part),
 }
 
@@ -227,8 +227,8 @@ fn write_constituencies<W: Write + Drop>(
 }
 
 /// Writes a table of the set-up: a record with the names of its columns, then one for each of its rows, in order.
-/// Returns the writer. On an error, a prefix of the text might have been written; nothing is written if the
-/// constituencies get no seats, or if the set-up does not have the part whose returns are wanted.
+/// Returns the writer. On an error, a prefix of the text might have been written. The table of the constituencies is not begun
+/// if they get no seats, and that of the returns is not if the set-up does not have the part that is wanted.
 pub fn write_list<W: Write + Drop>(
     alloc: Global,
     setup: &Setup,

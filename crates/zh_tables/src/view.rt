@@ -33,11 +33,11 @@ fn would_be(progress: &Progress) -> &str
     }
 }
 
-/// The lines that go with a view: at most 281 bytes.
+/// Room for the lines that go with a view.
 pub(crate) type Said = ArrayVec<u8, 320>;
 
-/// Writes a line with the returns held and due, the municipalities closed and their number, the commands accepted, and
-/// whether a final sheet would be of all returns.
+/// Appends a line with the returns held and due, the municipalities that are closed and all of them, the commands accepted,
+/// and whether a final sheet would be of all returns.
 fn push_progress(text: &mut Said, progress: &Progress, accepted: u64)
     requires { length text.old.items ≤ 94 }
     ensures { text.new.items ≡ text.old.items ++ summary_of progress.now accepted }
@@ -53,7 +53,7 @@ fn push_progress(text: &mut Said, progress: &Progress, accepted: u64)
     push(text, " of all returns\n");
 }
 
-/// Writes this line for the whole canton.
+/// Appends the line of `push_progress` for the whole canton.
 fn push_summary(text: &mut Said, count: &Count<'_>)
     requires { length text.old.items ≤ 94 }
     ensures { text.new.items ≡ text.old.items ++ summary count.now }
@@ -62,8 +62,8 @@ fn push_summary(text: &mut Said, count: &Count<'_>)
     push_progress(text, &progress, count.accepted());
 }
 
-/// The lines that go with a view: how many returns are in from the whole canton. For implausible votes there is a line
-/// above it if the constituencies get no seats, which says that votes are not compared with persons.
+/// The lines that go with a view: one with how many returns are in from the whole canton. For implausible votes, if the
+/// constituencies get no seats, a line above it says that votes are not compared with persons. Fails if memory is refused.
 pub fn said_of(alloc: Global, count: &Count<'_>, view: View) -> Result<Vec<u8>, AllocError>
     ensures { IfOk result (λ text. IsSaidOf count.now view text.items) }
 {

@@ -10,7 +10,7 @@ use Rattle.zh_totals.specs.declared.totals.Change.{Change}
 use Rattle.zh_totals.specs.Totals.{VoteTotals, place_in, votes_in, all_votes}
 use Rattle.zh_totals.specs.Counting.{votes_of}
 
--- the sum, less the votes before the change, plus those after it
+-- the sum for the list in its constituency, less the votes before the change, plus those after it
 abbrev pub sum_after : VoteTotals → Change → ℕ
 sum_after totals change = votes_in totals change.constituency change.list - change.before + change.after
 
@@ -33,7 +33,7 @@ pub record IsChange (totals : VoteTotals) (change : Change) : Type 0 where
   pub after : change.after ≤ 1000000000
   pub most : all_votes (noted totals change) ≤ 10 ^ 14
 
--- the votes held under a key, 0 if nothing is held
+-- the votes held under a key, 0 if nothing is held or the list is withdrawn
 abbrev pub votes_held : Tally → ℕ → ℕ → ℕ
 votes_held tally municipality list = option_map_or votes_of (held tally municipality list) 0
 
@@ -46,11 +46,11 @@ change_to tally municipality list votes = record {
   after = votes;
 }
 
--- what a row of a return changes
+-- the change that a row makes
 abbrev pub row_change : Tally → Row → Change
 row_change tally row = change_to tally row.municipality row.list row.votes
 
--- the changes that an accepted command makes to the count before it
+-- the changes of votes that an accepted command makes, from what the count held before it
 abbrev pub changes_of : Tally → Command → List Change
 changes_of tally (commands.Return desk row) = row_change tally row ∷ []
 changes_of tally (commands.Withdraw desk municipality list number) = change_to tally municipality list 0 ∷ []

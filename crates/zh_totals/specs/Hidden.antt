@@ -3,7 +3,7 @@ use Rattle.std.specs.Prelude.{◌≡◌, ℕ, ◌≤◌, false, length}
 use Rattle.zh_districts.specs.Canton.{stands}
 use Rattle.zh_totals.specs.Totals.{VoteTotals, votes_in}
 
--- lists that do not stand have no votes, in one constituency and in all
+-- lists that do not stand have no votes, in constituency d and, below, in each constituency
 abbrev pub NoneHiddenIn : VoteTotals → ℕ → Type 0
 NoneHiddenIn totals d = (g : ℕ) → 1 ≤ g → g ≤ length totals.canton.groups → stands totals.canton d g ≡ false → votes_in totals d g ≡ 0
 

@@ -6,7 +6,7 @@ use Rattle.zh_totals.specs.declared.totals.Totals.TheInside.{Inside}
 abbrev pub totals_in : Inside → VoteTotals
 totals_in t = record { canton = t.setup.now; votes = t.votes.items }
 
--- the votes of each constituency
+-- one sum for each constituency, in order: the votes of all groups there
 pub record AreConstituencies (totals : VoteTotals) (sums : List ℕ) : Type 0 where
   pub one_each : length sums ≡ length totals.canton.constituencies
   pub votes : (i : ℕ) → i < length totals.canton.constituencies → slice_index sums i ≡ constituency_votes totals (i + 1)

@@ -16,8 +16,8 @@ ghost use Rattle.zh_totals.specs.Counting.{totals_of, votes_of};
 ghost use Rattle.zh_totals.specs.Hidden.{NoneHidden};
 ghost use Rattle.zh_totals.specs.Totals.{AreTotals};
 
-/// After an accepted command, the totals are those before it, with each of its changes noted, one after another. If one entry
-/// replaces what is held under its key, the totals are those before it, with this change noted.
+/// After an accepted command, the totals are those before it, with each of its changes noted, one after another. If an entry
+/// of a list that stands in a municipality replaces what is held there, the totals are those before, with this change noted.
 pub fn changes_are_noted()
     ensures command { (tally : Tally) (command : Command) → IsTally tally → HasNumbers command → judge tally command ≡ Accept
         → totals_of (changed tally command) ≡ all_noted (totals_of tally) (changes_of tally command) }
@@ -27,12 +27,12 @@ pub fn changes_are_noted()
         ≡ noted (totals_of tally) (change_to tally m l (votes_of entry)) }
 {}
 
-/// The totals of a count are within their limits.
+/// The totals of a count that is within its limits are within theirs.
 pub fn totals_are_few()
     ensures { (tally : Tally) → IsTally tally → AreTotals (totals_of tally) }
 {}
 
-/// A count has no votes of lists that do not stand.
+/// The totals of a count that is within its limits have no votes of lists that do not stand.
 pub fn no_votes_are_hidden()
     ensures { (tally : Tally) → IsTally tally → NoneHidden (totals_of tally) }
 {}

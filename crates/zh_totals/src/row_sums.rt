@@ -1,4 +1,4 @@
-//! The votes of each row, which can be too many.
+//! The sums of the rows of a table of votes, which can be more than an election may have.
 ghost use Rattle.std.specs.Prelude.{◌≡◌, ◌+◌, ◌*◌, ◌^◌, ◌<◌, ◌≤◌, IfOk, MatchOption, length};
 ghost use Rattle.zh_totals.specs.GivenVotes.{AreRowSums, votes_from, votes_of_rows};
 
@@ -7,7 +7,7 @@ use std::alloc::{AllocError, Global};
 /// The greatest number of votes of an election.
 const MOST: u64 = 100_000_000_000_000;
 
-/// The sum of `count` votes from a place on. None if it is more than an election may have.
+/// The sum of `count` numbers of votes from a place on. None if it is more than an election may have.
 fn votes_from(votes: &[u64], first: usize, count: usize) -> Option<u64>
     requires { first + count ≤ length votes.now }
     ensures { MatchOption result (10 ^ 14 < votes_from votes.now first count)
@@ -24,7 +24,7 @@ fn votes_from(votes: &[u64], first: usize, count: usize) -> Option<u64>
     Some(sum)
 }
 
-/// The votes of each row. None if all rows together have more than an election may have. Fails if memory is refused.
+/// The sum of each row. None if all rows together have more votes than an election may have. Fails if memory is refused.
 pub(crate) fn row_sums(
     alloc: Global,
     votes: &[u64],

@@ -79,7 +79,7 @@ impl<'s> RunningCount<'s> {
         is_read
     }
 
-    /// Applies an accepted command, which is then counted, to the count and its totals.
+    /// Applies an accepted command to the count and its totals, and adds 1 to the number of accepted commands.
     pub fn apply(&mut self, command: &Command<'_>)
         requires origin { IsOriginOf Format.Two (origin_of command.now) }
         requires accept { judge self.old command.now ≡ Accept }
@@ -112,7 +112,7 @@ impl<'s> Totals<'s> {
             } => self.note_votes(count, *municipality, *list, 0),
             Command::Close { .. } => {}
             Command::Reopen { .. } => {}
-            // No two rows have the same key, so what the count holds there is what was held before the batch.
+            // No two rows have the same key, so the votes that each row replaces are those that the count holds.
             Command::Batch { rows, .. } => {
                 for i in 0..rows.len() {
                     let row = rows.get(i);

@@ -14,8 +14,8 @@ use std::marker::Model;
 use zh_districts::Setup;
 use zh_returns::Count;
 
-/// A change of the votes of a list in one municipality, from `before` to `after`. Each is at most 1,000,000,000, and 0 if
-/// nothing is held or the list is withdrawn. Constituencies and lists are numbered from 1.
+/// A change of the votes of a list in one municipality, from `before` to `after`. If nothing is held, or the list is
+/// withdrawn, there are 0 votes. Constituencies and lists are numbered from 1.
 #[derive(Clone, Copy)]
 pub struct Change {
     pub constituency: u32,
@@ -207,7 +207,7 @@ impl<'s> Totals<'s> {
         }
     }
 
-    /// Notes an entry after those before it.
+    /// Notes the entry of a list in a municipality, if there is one, after the entries of the keys before it.
     fn note_entry(&mut self, count: &Count<'_>, municipality: u32, list: u32)
         requires limits { IsTally count.now }
         requires from_one { 1 ≤ municipality }

@@ -11,7 +11,7 @@ rounded_down n m weight = (weight * m + n - 1) / (2 * n)
 abbrev pub total_up : ℕ → ℕ → List ℕ → ℕ
 total_up n m weights = sum_by (rounded_up n m) weights
 
--- few enough halves for the products to fit into 64 bits
+-- a weight n from 1 to 10^14, and few enough halves for the products to fit into 64 bits
 pub record AreFewHalves (n m : ℕ) : Type 0 where
   pub some : 1 ≤ n
   pub small : n ≤ 10 ^ 14

@@ -8,8 +8,8 @@ use Rattle.zh_divisors.specs.Shares.{Apportionment}
 abbrev pub of_participants : List ℕ → List Bool → List ℕ
 of_participants numbers taking = map (λ x. x.0) (filter (λ x. x.1) (zip numbers taking))
 
--- the seats of the house are apportioned to the groups that take part, in proportion to their voter sums; each other group
--- gets 0
+-- the seats of the house are apportioned to the groups that take part, in proportion to their voter sums and with no tie; each
+-- other group gets 0
 pub record AreUpperSeats (voters : List ℕ) (taking : List Bool) (house : ℕ) (seats : List ℕ) : Type 0 where
   pub one_each : length seats ≡ length voters
   pub in_proportion : IsStrictFit (of_participants voters taking) house (of_participants seats taking)

@@ -17,7 +17,8 @@ fn has_voters(sums: &[u64]) -> bool
     sums.iter().any(|sum| *sum > 0)
 }
 
-/// The seats of the house in proportion to these sums, with the divisor. At least one of the sums must not be 0.
+/// The seats of the house in proportion to these sums, with the divisor. At least one of the sums must not be 0. Fails if the
+/// seats are tied or memory is refused.
 fn shares_of(alloc: Global, sums: &[u64], house: u32) -> Result<Shares, ShareFault>
     requires some_voters { Any (λ v. 0 < v) sums.now }
     requires at_most_32 { length sums.now ≤ 32 }
@@ -30,8 +31,8 @@ fn shares_of(alloc: Global, sums: &[u64], house: u32) -> Result<Shares, ShareFau
     apportion(alloc, &weights, house)
 }
 
-/// The seats of the house for each group, in proportion to the voter sums of the groups that take part (GPR
-/// section 103). The other groups are left out and get no seats.
+/// The seats of each group, which add up to the house, in proportion to the voter sums of the groups that take part (GPR
+/// section 103), with the divisor. The other groups are left out and get no seats.
 pub fn upper(
     alloc: Global,
     voters: &[u64],

@@ -46,7 +46,7 @@ pub enum UpperRefusal {
     NoGroup,
     /// The voter sums of all groups that take part are 0.
     NoVoters,
-    /// The seats are tied: a seat is worth as much to two groups that take part.
+    /// The seats are tied: a seat is worth as much to one group that takes part as to another.
     Tied,
 }
 

@@ -2,7 +2,7 @@
 //!
 //! The votes of a list are divided by the seats of its constituency and rounded, which gives its voter number: a
 //! voter has as many votes as the constituency has seats. The voter numbers of a group are added up over the canton.
-//! The house is then apportioned, in proportion to these sums, to the groups that take part.
+//! The seats of the house are then apportioned, in proportion to these sums, to the groups that take part.
 #![tactic(auto)]
 
 pub use apportionment::upper;

@@ -43,7 +43,7 @@ fn rounded_down(divisor: HalfDivisor, weight: u64) -> u64
     (weight * u64::from(divisor.odd) + divisor.weight - 1) / (2 * divisor.weight)
 }
 
-/// The sum of the weights over this divisor, each rounded half up.
+/// The sum of the weights over this divisor, each rounded to the nearest whole number, a half up.
 fn total_up(divisor: HalfDivisor, weights: &[u64]) -> u64
     requires few { AreFewHalves divisor.weight divisor.odd }
     requires at_most_32 { length weights.now ≤ 32 }
@@ -141,8 +141,8 @@ fn ranges_of(alloc: Global, sums: &[u64], house: u32) -> Result<SeatRanges, Allo
     })
 }
 
-/// The fewest and the most seats of each group, if the seats of the groups that take part are tied (GPR section 103). They
-/// show between which groups the lot decides, and about how many seats.
+/// The fewest and the most seats of each group, if the seats of the groups that take part are tied (GPR section 103). The lot
+/// decides between the groups for which the two differ. A group that does not take part has 0 and 0.
 pub fn upper_ranges(
     alloc: Global,
     voters: &[u64],

@@ -5,7 +5,7 @@ use std::marker::Model;
 
 /// The seats of each group in the whole canton and the divisor `num / den` that gives them.
 ///
-/// The fraction is not reduced: `num` is from 1 to 2 * 10^14, `den` from 1 to 800.
+/// The fraction is not reduced. `upper` makes it from two voter sums and the seats of their groups.
 #[derive(Drop)]
 pub struct Upper {
     seats: Vec<u32>,
