@@ -50,7 +50,7 @@ pub record DiffersFromSheet (canton : Canton) (bytes : List ℕ) (wrong : WrongL
   pub other : bytes ≢ right_text sheet
   pub line : DiffersAt bytes (right_text sheet) (right_text sheet) wrong
 
--- if the verdict is right, this is the right sheet; otherwise there is none
+-- with the verdict `Right`, the bytes are the text of this right sheet; with any other, they are not that of a right sheet
 abbrev pub IsRightExactly : Canton → Option VoteTotals → List ℕ → SheetVerdict → Type 0
 IsRightExactly canton held bytes (Right c) = IsRight canton held bytes c
 IsRightExactly canton held bytes verdict = (c : RightSheet) → ¬ IsRight canton held bytes c
