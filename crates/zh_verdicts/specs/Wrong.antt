@@ -13,7 +13,7 @@ use Rattle.zh_check.specs.declared.checked.WrongLine.{WrongLine}
 abbrev pub shown_line : List ℕ → List ℕ
 shown_line line = shown_text names.MarkAndReturn line
 
--- a line that was found, or `nothing`
+-- a line that was found, or `nothing` if it is empty
 abbrev pub found_text : List ℕ → List ℕ
 found_text [] = codes "nothing"
 found_text (byte ∷ line) = shown_line (byte ∷ line)
