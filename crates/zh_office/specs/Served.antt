@@ -1,4 +1,4 @@
--- The part of a reader's bytes that was served.
+-- What has been read, answered and written when serving ends, by how it ends.
 use Rattle.std.specs.Prelude.{◌≡◌, ◌<◌, ◌≤◌, ◌⊎◌, ◌+◌, ◌-◌, ◌*◌, ◌^◌, ℕ, List, [], ◌∷◌, ◌++◌, take, min, length, IsTrue, Option, Some}
 use Rattle.std.specs.Prelude.{codes}
 use Rattle.std.specs.Io.KnownBytes.{Appends, Consumes, IsAtEnd}
@@ -34,7 +34,7 @@ session written office history left film = record { written = written; office = 
 abbrev pub frame_at : Session → Frame
 frame_at s = now_at s.left s.written s.office.history.trail
 
--- the film's last note is of a failed read
+-- the latest frame of the film is of a failed read
 abbrev pub HasFailedRead : List Frame → Type 0
 HasFailedRead [] = ⊥
 HasFailedRead (f ∷ fs) = f.kind ≡ Failed

@@ -54,7 +54,7 @@ fn submit<D: Disk>(ledger: &mut Ledger<'_>, disk: &mut D, command: &Command<'_>)
 }
 
 /// Submits these rows, at least one, as a single command of this desk and reports its outcome. Desk 0 means that no desk
-/// sent the rows.
+/// sent the rows. `bytes` is room for them.
 pub(crate) fn submit_rows<D: Disk>(
     ledger: &mut Ledger<'_>,
     disk: &mut D,

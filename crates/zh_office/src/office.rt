@@ -72,7 +72,7 @@ fn row_bytes(alloc: Global) -> Result<Vec<u8>, AllocError>
 }
 
 impl<'s> Office<'s> {
-    /// Formats a disk, whatever it contains, so that nothing has been returned on it, as `Ledger::format` does.
+    /// Formats a disk, whatever it contains, so that it holds the empty count, as `Ledger::format` does.
     pub fn format<D: Disk>(alloc: Global, setup: &Setup, disk: &mut D) -> Result<(), FormatFault>
         ensures call { Call store_format_fails (MakesNew setup.now) (D.history disk.old) (D.history disk.new) result }
         ensures untouched { IsErrOf result FormatFault.Memory → disk.new ≡ disk.old }
@@ -80,13 +80,13 @@ impl<'s> Office<'s> {
         Ledger::format(alloc, setup, disk)
     }
 
-    /// Opens the office on a disk, as `Ledger::open` does. All memory is allocated before the first call of the device.
+    /// Opens the office on a disk, as `Ledger::open` does. All memory is allocated before the first call of the disk.
     pub fn open<D: Disk>(
         alloc: Global,
         setup: &'s Setup,
         disk: &mut D,
     ) -> Result<Office<'s>, OpenFault>
-        // While the disk is honest, this also says what each image is at each moment since the call began.
+        // If the disk is honest, this also says what a stop can leave on it, at each moment since the call began.
         ensures opening { Opening setup.now (D.history disk.old) (D.history disk.new) (ledger_of_opened result) }
 
         // No desk has a batch yet.
@@ -130,7 +130,7 @@ impl<'s> Office<'s> {
     /// An accepted command is on the disk before it is answered `stored`. After `device` the disk may or may not hold it,
     /// and the count is without it.
     pub fn line<D: Disk>(&mut self, disk: &mut D, bytes: &[u8]) -> Answer<'s>
-        // While the disk is honest, the turn also says what each image holds at each moment since the call began.
+        // If the disk is honest, the turn also says what a stop can leave on it, at each moment since the call began.
         ensures turn { Turn (on_disk self.old (D.history disk.old)) bytes.now result (on_disk self.new (D.history disk.new)) }
 
         ensures others { (desk : Desk) → desk.number ≢ desk_of bytes.now → rows_of self.new.held desk ≡ rows_of self.old.held desk }
