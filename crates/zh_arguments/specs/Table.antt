@@ -9,7 +9,7 @@ use Rattle.zh_tables.specs.declared.tables.Part.TheVariants.{Whole, Municipality
 use Rattle.zh_tables.specs.declared.tables.Table.{Table}
 use Rattle.zh_tables.specs.declared.tables.Table.TheVariants.{Constituencies, Municipalities, Groups, Lists, Problems, Returns}
 
--- the path given after `--name`; clap makes sure that there is one
+-- the value given after `--name`, empty if there is none; clap makes sure that there is a required one
 abbrev pub path_in : Text → List Row → Text
 path_in name rows = unwrap_or (first_of name rows) []
 

@@ -30,7 +30,7 @@ pub struct Paths<'a> {
 pub enum Task<'a> {
     /// Serve the rehearsal's set-up on a disk in memory.
     Rehearse,
-    /// Format a disk, so that nothing has been returned on it.
+    /// Format a disk that is blank or missing.
     Format(Paths<'a>),
     /// Serve on a disk.
     Run(Paths<'a>),
@@ -53,7 +53,7 @@ pub enum Task<'a> {
     },
     /// Check a published sheet.
     Check(CheckPaths<'a>),
-    /// Write the seats of a published sheet.
+    /// Check a published sheet and write its seats.
     SheetSeats {
         setup: &'a str,
         sheet: &'a str,
@@ -63,7 +63,7 @@ pub enum Task<'a> {
     Version,
 }
 
-/// The path given after `--name`. A command that requires the path is not accepted without it.
+/// The value given after `--name`, or an empty text if there is none. clap refuses a command without a required value.
 pub(crate) fn path_in<'a>(given: &ArgMatches<'a>, name: &str) -> &'a str
     ensures { result.now ≡ path_in name.now (rows_of (found_of given.now)) }
 {
@@ -148,7 +148,8 @@ pub fn read_arguments<'a>(alloc: Global, arguments: &'a [String]) -> Result<Task
 /// How a command that clap accepts was misused.
 #[derive(Clone, Copy)]
 pub(crate) enum Misuse {
-    /// `list` does not name a table.
+    /// `list` does not name a table, or it has `--municipality` or `--constituency` without a numeral, for a table other
+    /// than the returns, or both of them.
     Table,
     /// `status` has more than one of its three flags.
     Flags,

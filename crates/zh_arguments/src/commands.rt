@@ -25,7 +25,7 @@ pub enum Query {
     Export,
     /// How many returns are in.
     Status(View),
-    /// The votes so far, as CSV or as a table for reading.
+    /// The votes so far, as CSV or as a table for people.
     Votes { of: VotesOf, is_table: bool },
     /// The seats.
     Seats { is_final: bool, layout: Layout },

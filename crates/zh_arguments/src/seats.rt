@@ -17,7 +17,7 @@ use std::alloc::{AllocError, Global};
 /// What the seats are shown for.
 #[derive(Clone, Copy, Debug, PartialEq, Eq)]
 pub enum SeatsOf {
-    /// For each list that takes part.
+    /// For each list that stands.
     Lists,
     /// For each group.
     Groups,
@@ -25,7 +25,7 @@ pub enum SeatsOf {
     Constituencies,
 }
 
-/// The form of the seats: what they are shown for, and whether as CSV or as a table for reading.
+/// The form of the seats: what they are shown for, and whether as CSV or as a table for people.
 #[derive(Clone, Copy, Debug, PartialEq, Eq)]
 pub struct Layout {
     pub of: SeatsOf,
@@ -163,7 +163,7 @@ fn task_from<'a>(source: Source, layout: Layout, given: &ArgMatches<'a>) -> Task
     }
 }
 
-/// The task of showing seats, if the arguments name exactly one source and a form.
+/// The task of showing seats, or how the command was misused if the arguments do not name exactly one source and a form.
 pub(crate) fn seats_in<'a>(given: &ArgMatches<'a>) -> Result<Task<'a>, Misuse>
     ensures { MatchResult result (AsksWith names.Seats (rows_of (found_of given.now)))
         (λ misuse. misuse_of names.Seats (rows_of (found_of given.now)) ≡ Some misuse) }
