@@ -22,7 +22,7 @@ use Rattle.zh_program.specs.declared.place.TaskFile.TheVariants as files
 use Rattle.zh_program.specs.declared.fault.TaskFault.{TaskFault}
 use Rattle.zh_program.specs.declared.fault.TaskFault.TheVariants as faults
 
--- These are the first 280,065 bytes of a sheet's file, one more than the longest sheet has, if its bytes are known.
+-- These are the first 280,065 bytes of a sheet's file, more than any sheet has, if its bytes are known.
 abbrev pub IsSheetAt : Option (List ℕ) → List ℕ → Type 0
 IsSheetAt None front = Unit {0}
 IsSheetAt (Some text) front = front ≡ take 280065 text

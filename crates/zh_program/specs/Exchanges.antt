@@ -27,7 +27,7 @@ pub data Given : Type 0 where
   line : List ℕ → Result Line LineFault → Given
   text : Option (List ℕ) → Result (List Row) LoadFault → Given
 
--- The line parses as this; or the text, if its bytes are known, has the header and then these rows, which load as a batch.
+-- The line parses as this; or the text, if its bytes are known, has the column names and then these rows, which load as a batch.
 abbrev pub IsReadRight : Canton → Given → Type 0
 IsReadRight canton (line bytes reading) = ParsesAs bytes reading
 IsReadRight canton (text bytes (Ok rows)) = AreLoaded canton rows × IfSome bytes (λ known. AreAll known (names ∷ map fields rows))

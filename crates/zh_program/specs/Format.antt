@@ -50,7 +50,7 @@ pub record FormatsBlank (canton : Canton) (result : Result (Unit {0}) TaskFault)
   pub in_use : IsErrOf result faults.InUse → IsBlank old.now.bytes → ⊥
   pub unformatted : IsErrOf result faults.Memory → new ≡ opened
 
--- The one or the other, by the flag.
+-- The first of the two if the flag is true, otherwise the second.
 abbrev pub SaysIf : Bool → Type 0 → Type 0 → Type 0
 SaysIf true said unsaid = said
 SaysIf false said unsaid = unsaid

@@ -19,7 +19,7 @@ use Rattle.zh_sheet_text.specs.declared.mark.MarkedSheet.{MarkedSheet}
 use Rattle.zh_sheet_text.specs.declared.mark.NoSeats.{NoSeats}
 use Rattle.zh_sheet_text.specs.declared.mark.NoSeats.TheVariants.{Refused, Exhausted, Tied, Wrong}
 
--- The answer to the line of a sheet, if there are no seats for this reason.
+-- The answer to a line that asks for a sheet, if there are no seats for this reason.
 abbrev pub refusal_answer : NoSeats → Answer
 refusal_answer (Refused refusal) = answers.Reply (replies.Refused refusal)
 refusal_answer (Exhausted reason) = answers.Reply (replies.Refused (refusals.Sheet sheets.Exhausted))

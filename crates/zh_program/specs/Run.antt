@@ -25,7 +25,7 @@ streams left written film = record { left = left; written = written; film = film
 abbrev pub beside : Streams → OnDisk Office → Session
 beside s office = record { written = s.written; office = office; left = s.left; film = s.film }
 
--- All lines of the input were answered. `faulted` says whether the device failed meanwhile.
+-- All lines of the input were answered. `faulted` says whether the device failed while they were.
 abbrev pub ServesWhole : Bool → Session → Session → Type 0
 ServesWhole faulted old new = (count : ℕ) × ServesAll old new count × (new.office.holder.ledger.store.broken ≡ faulted)
 
