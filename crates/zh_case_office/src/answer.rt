@@ -14,7 +14,7 @@ use zh_matrices::Question;
 /// What answers the question.
 #[derive(Clone, Copy)]
 pub enum Whom {
-    /// The search, and for the reason the decision where the search is exhausted.
+    /// The search. If it is exhausted, the decision gives the reason.
     Searches,
     /// The decision alone.
     Decision,
@@ -22,8 +22,8 @@ pub enum Whom {
     Lot,
 }
 
-/// The result of a decision. Seats come with their divisors if the decision alone was asked; otherwise the search missed
-/// them.
+/// The result of a decision. If it has seats, they come with their divisors if the decision alone was asked; otherwise
+/// they come after `missed`, because the search did not find them.
 fn decided(alloc: Global, question: &Question<'_>, whom: Whom) -> Result<String, AllocError>
     requires some_column { 1 ≤ question.now.columns }
     requires totals { AreSeatTotals question.now.rows question.now.row_totals.now }

@@ -63,8 +63,8 @@ fn exhausted(
     }
 }
 
-/// Why the search for the seats of a count's lists is exhausted, or the earlier fault. `mark` is held open during the
-/// calls.
+/// Why the search for the seats of a count's lists is exhausted, or the earlier fault, or `a sheet` if there is one. `mark`
+/// is held open during the calls.
 pub fn reason_of(
     alloc: Global,
     count: &Count<'_>,
