@@ -29,10 +29,10 @@ use zh_record_text::RecordFault;
 use zh_returns::Count;
 use zh_totals::Totals;
 
-/// The bytes of the rows of a batch: 1,000 rows of 11 bytes.
+/// The most bytes of the rows of a batch: 1,000 rows of 11 bytes.
 const ROWS_LENGTH: usize = 11_000;
 
-/// The count of an election on a disk, and the desks that change it.
+/// The count of an election on a disk, and the batches of the desks that change it.
 ///
 /// Each call takes the disk, which must be the one that the office was opened on. After a fault of the device the office
 /// answers `reopen-disk`, until a new office is opened on the disk.
@@ -125,7 +125,7 @@ impl<'s> Office<'s> {
         self.ledger.is_broken()
     }
 
-    /// Answers a line, given without its LF. Only the lines `row`, `sheet` and `final` can take memory.
+    /// Answers a line, given without its LF. Only the lines `row`, `sheet` and `final` can be answered `memory`.
     ///
     /// An accepted command is on the disk before it is answered `stored`. After `device` the disk may or may not hold it,
     /// and the count is without it.

@@ -107,7 +107,7 @@ impl<'s> Office<'s> {
     }
 
     /// Answers the lines that end in a block, the first of which begins with `line`, and keeps the bytes of the line after
-    /// them.
+    /// them in `line`. Returns how many lines it answered.
     fn take_block<R: Read, W: Write, D: Disk>(
         &mut self,
         line: &mut PartialLine,
@@ -145,7 +145,7 @@ impl<'s> Office<'s> {
         Ok(count)
     }
 
-    /// Answers the last line, which has not ended, if it has a byte. Returns how many lines that is.
+    /// Answers the last line, which has not ended, if it has a byte. Returns how many lines it answered, 0 or 1.
     fn finish<R: Read, W: Write, D: Disk>(
         &mut self,
         line: &PartialLine,
