@@ -40,7 +40,7 @@ word_of names.Seats = codes "seats"
 abbrev pub disk_rules : List Rule
 disk_rules = argument_rule (codes "setup") ∷ argument_rule (codes "disk") ∷ []
 
--- a set-up, and either a disk, with or without a flag, or a sheet
+-- a set-up; a disk, the flag `--final` and a sheet, each of which can be left out
 abbrev pub source_rules : List Rule
 source_rules =
     argument_rule (codes "setup") ∷ option_rule (codes "disk") ∷ flag_rule (codes "final") ∷ option_rule (codes "sheet") ∷ []

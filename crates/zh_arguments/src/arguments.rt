@@ -28,18 +28,18 @@ pub struct Paths<'a> {
 /// What the program is asked to do.
 #[derive(Clone, Copy)]
 pub enum Task<'a> {
-    /// Serve the rehearsal's set-up on a disk in memory.
+    /// Answer the lines of the input with the rehearsal's set-up, on a disk in memory.
     Rehearse,
     /// Format a disk that is blank or missing.
     Format(Paths<'a>),
-    /// Serve on a disk.
+    /// Answer the lines of the input and keep the count on a disk.
     Run(Paths<'a>),
     /// Load the returns of a CSV file as one batch.
     Load {
         paths: Paths<'a>,
         csv: &'a str,
     },
-    /// Report what a load of that file would do, and store nothing.
+    /// Report what a load of a CSV file would do, and store nothing.
     DryRun {
         paths: Paths<'a>,
         csv: &'a str,

@@ -41,7 +41,8 @@ pub(crate) enum Source {
     Sheet,
 }
 
-/// A command that requires a set-up, and accepts either a disk, with or without a flag, or a sheet.
+/// A command that requires a set-up, and accepts a disk, the flag `--final` and a sheet. `source_of` says later which of
+/// them can be given together.
 fn with_source<'a>(alloc: Global, name: &'a str, about: &'a str) -> Result<Command<'a>, AllocError>
     ensures { IfOk result (λ command. IsCommand command (command_taking name.now source_rules)) }
 {

@@ -14,7 +14,8 @@ use std::alloc::{AllocError, Global};
 use zh_tables::{Part, Table};
 use zh_text::numeral;
 
-/// A command that requires a set-up and a table, and accepts a part of the set-up for some tables.
+/// A command that requires a set-up and a table, and accepts a municipality and a constituency. `table_named` says later
+/// which table can be limited to one of them.
 pub(crate) fn list_command<'a>(
     alloc: Global,
     name: &'a str,
