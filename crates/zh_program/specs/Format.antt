@@ -55,7 +55,7 @@ abbrev pub SaysIf : Bool → Type 0 → Type 0 → Type 0
 SaysIf true said unsaid = said
 SaysIf false said unsaid = unsaid
 
--- What is said after a disk was formatted: how many problems keep the set-up from giving seats, or nothing if there are none.
+-- What is said after a disk was formatted: how many problems the set-up has, or nothing if it has none.
 abbrev pub SaysProblems : Canton → (List ℕ → Type 0) → Type 0 → Result (Unit {0}) TaskFault → Type 0
 SaysProblems canton Said unsaid (Ok done) = (problems : SetupProblems) × AreProblems canton problems
     × SaysIf (nat_lt 0 (problem_count problems)) (Said (problems_line (problem_count problems))) unsaid

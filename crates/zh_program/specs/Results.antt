@@ -30,7 +30,7 @@ abbrev pub answer_of : Result MarkedSheet NoSeats → Answer
 answer_of (Ok seats) = answers.Sheet seats.sheet seats.mark.is_final
 answer_of (Err why) = refusal_answer why
 
--- The reason for a fault, with the seats that the lot decides, if given.
+-- The reason why a fault leaves no seats, with the seats that the lot decides, if given.
 abbrev pub told : SheetFault → Option Lot → NoSeats
 told faults.Memory lot = Refused refusals.Memory
 told (faults.Refused refusal) (Some lot) = Tied refusal lot
