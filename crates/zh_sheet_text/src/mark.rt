@@ -1,4 +1,5 @@
-//! How seats are marked: whether they are final, after how many commands, and who says so. And why there are no seats.
+//! How seats are marked: whether they are final, after how many commands, and where this comes from. And why there are
+//! no seats.
 ghost use Rattle.std.specs.Prelude.{◌≡◌};
 ghost use Rattle.zh_sheet_text.specs.Lists.{kind};
 ghost use Rattle.zh_sheet_text.specs.SeatTable.{whose};

@@ -261,7 +261,7 @@ pub fn push_table<T: TableCells>(out: &mut Vec<u8>, cells: &T) -> Result<(), All
     }
 }
 
-/// Appends spaces.
+/// Appends this many spaces.
 fn push_spaces(out: &mut Vec<u8>, count: usize) -> Result<(), AllocError>
     ensures { OnOk result (out.new.items ≡ out.old.items ++ replicate count 32) }
 {
