@@ -31,7 +31,7 @@ group_grid x = record {
   cell = λ line column. group_cell x (table_place (length x.totals.canton.groups) line) (field_at group_fields column);
 }
 
--- the constituencies of a sheet, in the same way
+-- the constituencies of a sheet: a line for each, and a line `total` below them
 abbrev pub constituency_cell : Distribution → TablePlace → Field → List ℕ
 constituency_cell x Head field = heading field
 constituency_cell x (At d) field = field_of_constituency x d field
