@@ -35,7 +35,7 @@ pub record IsOtherVotes (canton : Canton) (text votes held : List ℕ) (other : 
   pub line : line_of_votes canton place ≡ before + 1
   pub said : IsOther text before (slice_index held place) other
 
--- the votes that a text shows are those held, if there are any
+-- if the votes held are given, they are those that a text shows
 abbrev pub HasHeldVotes : Canton → Option VoteTotals → List ℕ → Type 0
 HasHeldVotes canton held text = IfSome held (λ h. votes_read canton text ≡ h.votes)
 

@@ -19,7 +19,7 @@ use Rattle.zh_check.specs.declared.checked.WrongLine.{WrongLine}
 abbrev pub right_text : RightSheet → List ℕ
 right_text c = sheet_text c.sheet c.desk c.is_final c.accepted
 
--- the bytes are the text of a distribution of this set-up, with the votes held if there are any, for a desk from 1 to 8
+-- the bytes are the text of a published distribution of this set-up, for a desk from 1 to 8; its votes are those held, if these are given
 pub record IsRight (canton : Canton) (held : Option VoteTotals) (bytes : List ℕ) (c : RightSheet) : Type 0 where
   pub desk : (1 ≤ c.desk) × (c.desk ≤ 8)
   pub accepted : c.accepted ≤ 2 ^ 64 - 1

@@ -174,7 +174,7 @@ fn is_made_of_digits(mark: u8, word: &[u8]) -> bool
     !word.is_empty() && are_digits_or(mark, word)
 }
 
-/// Whether a word is possible at a part. No word is if the set-up gives the part.
+/// Whether a word is possible at a part. At a part that the set-up gives, no word is.
 fn does_fit(part: SheetPart, word: &[u8]) -> bool
     ensures { result ≡ fits part word.now }
 {
