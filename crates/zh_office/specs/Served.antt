@@ -14,7 +14,7 @@ use Rattle.zh_office.specs.Runs.{Runs, Turn, its_ledger, text_after}
 use Rattle.zh_office.specs.declared.service.ServeFault.{ServeFault}
 use Rattle.zh_office.specs.declared.service.ServeFault.TheVariants as faults
 
--- why serving ended before the end of the input, as reports spell it
+-- the fault that ended serving, as reports spell it
 abbrev pub serving_name : ServeFault → List ℕ
 serving_name faults.Read = codes "read"
 serving_name faults.Write = codes "write"
@@ -112,7 +112,7 @@ steps_broken lines old new breaks =
 abbrev pub AreDue : Option (List ℕ) → List ℕ → List (List ℕ) → Type 0
 AreDue reader' input lines = (lines ≡ ended_lines input) ⊎ (IsAtEnd reader' × (lines ≡ lines_of input))
 
--- the writer failed: a prefix of the answers is written, and the line in progress has had its effect
+-- the writer failed: a proper prefix of the answers is written, and the line whose answer is incomplete has had its effect
 pub record ServesFront (old new : Session) : Type 0 where
   pub input : List ℕ
   pub lines : List (List ℕ)

@@ -35,12 +35,12 @@ const ROWS_LENGTH: usize = 11_000;
 /// The count of an election on a disk, and the batches of the desks that change it.
 ///
 /// Each call takes the disk, which must be the one that the office was opened on. After a fault of the device the office
-/// answers `reopen-disk`, until a new office is opened on the disk.
+/// answers `reopen-disk` to each line that it can read and to each loading, until a new office is opened on the disk.
 #[derive(Drop)]
 pub struct Office<'s> {
     // the count; each call takes its disk
     pub(crate) ledger: Ledger<'s>,
-    // the desks with their batches
+    // the batches of the desks
     pub(crate) desks: Desks,
     // where rows and sheets are allocated
     pub(crate) alloc: Global,

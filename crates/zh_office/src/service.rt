@@ -25,7 +25,7 @@ use zh_text::{WriteFault, put};
 /// The most bytes that a read asks for.
 const BLOCK: usize = 8192;
 
-/// Why serving ended before the end of the input.
+/// The fault that ended serving.
 #[derive(Clone, Copy, Debug, PartialEq, Eq, Error)]
 #[error("{}", self.name())]
 pub enum ServeFault {
