@@ -148,15 +148,15 @@ pub fn read_arguments<'a>(alloc: Global, arguments: &'a [String]) -> Result<Task
 /// How a command that clap accepts was misused.
 #[derive(Clone, Copy)]
 pub(crate) enum Misuse {
-    /// `list` does not name a table, or it has `--municipality` or `--constituency` without a numeral, for a table other
-    /// than the returns, or both of them.
+    /// The `--of` of `list` is not the name of a table. Or `--municipality` or `--constituency` is not a numeral, is given for
+    /// a table other than the returns, or is given together with the other.
     Table,
     /// `status` has more than one of its three flags.
     Flags,
-    /// `seats` does not name exactly one source, or has the flag `--final` with a sheet.
+    /// `seats` has both `--disk` and `--sheet`, neither of them, or `--final` with `--sheet`.
     Source,
-    /// `votes` does not name rows.
+    /// The `--of` of `votes` is neither `lists` nor `groups`.
     Votes,
-    /// `seats` does not name records.
+    /// The `--of` of `seats` is not `lists`, `groups` or `constituencies`.
     Layout,
 }
