@@ -27,7 +27,7 @@ use zh_office::NotedReader;
 /// What a task does with its disk.
 #[derive(Clone, Copy)]
 pub enum Work<'a> {
-    /// Formats it. If there is no file, one is created.
+    /// Formats it, if it is blank. A file that is missing is created first.
     Format,
     /// Answers the lines of the input.
     Run,

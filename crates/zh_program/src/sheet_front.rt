@@ -76,7 +76,7 @@ fn read_front<R: Read>(alloc: Global, file: &mut NotedReader<R>) -> Result<Vec<u
     Err(TaskFault::Unreadable(TaskFile::Sheet))
 }
 
-/// The front of the sheet at this path.
+/// Reads the text of the sheet at a path, up to 280,065 bytes.
 pub(crate) fn sheet_at<F: Files>(
     alloc: Global,
     files: &mut F,
