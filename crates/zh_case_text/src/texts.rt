@@ -47,7 +47,7 @@ pub fn push_lines(answer: &mut String, separator: &str, text: &[u8]) -> Result<(
     Ok(())
 }
 
-/// The lines of a text, with a separator between them.
+/// The lines of a text, with `; ` between them.
 pub fn lines_in(alloc: Global, text: &[u8]) -> Result<String, CaseFault> {
     let mut lines = String::new(alloc);
     push_lines(&mut lines, "; ", text)?;
