@@ -101,7 +101,7 @@ fn drawn(
 /// The answer is `seats`, row by row, with the divisors of the rows and of the columns in millionths; `no votes` with a
 /// row; `tied` with a row and a column; or, if the search is exhausted, the reason: `impossible` with the rows, `nearly
 /// tied` with a row and a column, or `beyond` or `missed` with the seats. The decision answers `seats` with its own
-/// divisors, or such a reason. The lot answers `least` and `most` with seats, or `no tie`.
+/// divisors, or a reason other than `missed`. The lot answers `least` and `most` with seats, or `no tie`.
 pub fn answer_to(alloc: Global, text: &str, whom: Whom) -> Result<String, CaseFault> {
     let written = Written::read(alloc, text)?;
     let (row_totals, column_totals) = (

@@ -36,7 +36,7 @@ fn push_lists(
     Ok(())
 }
 
-/// A word and the seats of the lists.
+/// A word and, for each list that has seats, its constituency, its group and its seats.
 fn with_lists(alloc: Global, word: &str, lists: &ListSeats) -> Result<String, AllocError> {
     let mut text = String::from_str(alloc, word)?;
     for place in 0..lists.constituencies() {

@@ -74,7 +74,7 @@ impl Fixture<'_> {
         Held::of(self.alloc, &self.office, self.disk.device()?)
     }
 
-    /// Keeps the contents of the disk and its office.
+    /// Keeps what the disk and the office's count contain.
     pub(crate) fn hold(&mut self) -> Result<(), CaseFault> {
         self.held = self.holdings()?;
         Ok(())
