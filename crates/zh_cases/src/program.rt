@@ -62,7 +62,7 @@ const DISK: &str = "disk";
 #[derive(Drop)]
 struct OneDisk;
 
-/// A folder in memory with the files that the arguments name and the case's disk.
+/// A folder in memory with the files that the arguments name, except those that can't be read, and the case's disk.
 fn folder_of(
     rt: &HostRuntime,
     arguments: &[String],
