@@ -41,7 +41,7 @@ differs_text wrong =
 abbrev pub sum_text : OffTotal → List ℕ
 sum_text off = wrong_line off.line off.found.items ++ codes ": its lists have " ++ decimal off.seats
 
--- the line of one whose lists do not add up to its seats, and these seats
+-- the line of a constituency or group whose lists do not add up to its seats, the sum, and these seats
 abbrev pub total_text : OffTotal → List ℕ
 total_text off = sum_text off ++ codes " seats, should be: " ++ decimal off.total ++ codes "\n"
 
