@@ -61,7 +61,7 @@ SaysProblems canton Said unsaid (Ok done) = (problems : SetupProblems) × ArePro
     × SaysIf (nat_lt 0 (problem_count problems)) (Said (problems_line (problem_count problems))) unsaid
 SaysProblems canton Said unsaid (Err fault) = unsaid
 
--- A disk is formatted, with a remark on problems. Nothing else in the world changes.
+-- A disk is formatted if it is blank, with a remark on problems. Nothing else in the world changes.
 pub record Formatted (of : Known) (canton : Canton) (before after : WorldOf of × of.Disk)
     (result : Result (Unit {0}) TaskFault) : Type 0 where
   pub rest : after.0 ≡ record before.0 { faults = after.0.faults; remark = after.0.remark }

@@ -18,12 +18,12 @@ use Rattle.zh_program.specs.Order.{AnswersBeforeReading, Conversation, KeepsWhat
 use Rattle.zh_program.specs.Sheets.{FollowsFrom, IsTie}
 use Rattle.zh_program.specs.Stopped.{Always, OpensTo}
 
--- An office was opened on a disk that held this count. If it is stopped at any moment, even within a write or a sync, and opened
--- again, it holds the count after a prefix, in order, of the accepted commands. The prefix includes every acknowledged command.
--- Every sheet is that of the count at its line, and is right. A command is acknowledged if it is answered `stored`, and accepted
--- if it is answered `stored` or `device`. Not said here: when a line is refused, or a run fails; when a sheet is final, which tie
--- it is, and what other answers show. `before` is the disk before the opening; the conversation begins when the disk was opened,
--- or the opening was refused, and goes to the end.
+-- The disk of a task held this count. If the task is stopped at any moment, even within a write or a sync, an office that is then
+-- opened on the disk holds the count after a prefix, in order, of the accepted commands. The prefix includes every acknowledged
+-- command. Every sheet is that of the count at its line, and is right. A command is acknowledged if it is answered `stored`, and
+-- accepted if it is answered `stored` or `device`. Not said here: when a line is refused, or a run fails; when a sheet is final,
+-- which tie it is, and what other answers show. `before` is the disk before the opening; the conversation begins when the disk was
+-- opened, or the opening was refused, and goes to the end.
 pub record Headline (tally : Tally) (before : Trail) (talk : Conversation) (exchanges : List Exchange) : Type 0 where
   -- each line and each text is read by its rules and gives the command that it says
   pub read : EachIn exchanges (λ prior x. IsReadRight tally.canton x.given)
@@ -39,8 +39,8 @@ pub record Headline (tally : Tally) (before : Trail) (talk : Conversation) (exch
       → IfSome x.command (λ command. judge (count_by tally (log_of prior)) command ≡ verdicts.Same))
   -- a stop within the opening leaves the count as it was, even if the opening migrates the disk or is refused
   pub stopped_opening : Always (Holds tally) before talk.first.disk
-  -- a stop between two lines leaves at least the commands acknowledged by then, and at most those accepted; a stop within the
-  -- work on a line leaves what a stop before it can leave, or the same with the command of this line
+  -- a stop between two exchanges leaves at least the commands acknowledged by then, and at most those accepted; a stop within the
+  -- work on one leaves what a stop before it can leave, or the same with its command
   pub stopped_between : (prior rest : List Exchange) → exchanges ≡ prior ++ rest
       → (c : List ℕ) → IsImage (disk_by talk.first.disk prior).now c
       → HasSome tally (log_of prior).accepted (log_of prior).acknowledged c
