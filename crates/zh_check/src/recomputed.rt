@@ -188,7 +188,7 @@ pub(crate) fn column_divisors(alloc: Global, divisors: &[u64]) -> Result<Vec<u64
     divisors.iter().copied().filter(|x| *x > 0).collect(alloc)
 }
 
-/// Appends the seats of a constituency's lists, only of groups with a divisor.
+/// Appends the seats of a constituency's lists, but only those of groups with a divisor.
 fn push_columns(
     columns: &mut Vec<u32>,
     setup: &Setup,
