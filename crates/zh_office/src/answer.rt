@@ -25,7 +25,7 @@ use zh_sheet::Sheet;
 pub enum Answer<'s> {
     /// A reply of one line.
     Reply(Reply),
-    /// A sheet, and whether it is final. It is final once every municipality is closed.
+    /// A sheet, and whether it is final. Only the line `final` gives a final one, and only if every municipality is closed.
     Sheet(Sheet<'s>, bool),
 }
 
@@ -73,7 +73,8 @@ pub(crate) fn submit_rows<D: Disk>(
     submit(ledger, disk, &Command::Batch { desk, rows })
 }
 
-/// Submits a desk's batch as one command. The batch ends if it is stored or if the count already holds it.
+/// Submits a desk's batch as one command. The batch ends if it is stored, if the count already holds its rows, or if it
+/// has none.
 fn commit<D: Disk>(
     ledger: &mut Ledger<'_>,
     disk: &mut D,
