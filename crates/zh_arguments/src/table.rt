@@ -34,14 +34,15 @@ pub(crate) fn list_command<'a>(
         .arg(option(alloc, "constituency", "D", "Its returns alone"))
 }
 
-/// The number with this numeral.
+/// The number of a numeral, below 2^32, or `None` if the text is not one.
 fn number_in(text: &str) -> Option<u32>
     ensures { result ≡ number_in text.now }
 {
     numeral(text.as_bytes())
 }
 
-/// The part of the set-up: a municipality or a constituency by its number, or the whole.
+/// The part of the set-up: a municipality or a constituency by its number, or the whole if neither is given. `None` if both
+/// are given, or a text that is not a numeral.
 fn part_of(municipality: Option<&str>, constituency: Option<&str>) -> Option<Part>
     ensures { result ≡ part_of (option_map (λ s. s.now) municipality.entry) (option_map (λ s. s.now) constituency.entry) }
 {
