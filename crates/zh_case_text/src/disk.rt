@@ -120,7 +120,7 @@ impl CaseDisk {
         Ok(image)
     }
 
-    /// Writes bytes to the disk.
+    /// Takes a disk like this one, with these bytes from a place on.
     pub fn poke(&mut self, text: &str) -> Result<(), CaseFault> {
         let image = self.damaged(text)?;
         self.take_image(&image)
