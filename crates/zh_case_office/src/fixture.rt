@@ -91,7 +91,7 @@ impl<'s> Fixture<'s> {
         self.disk.stop(how)
     }
 
-    /// Writes bytes to the disk.
+    /// Writes bytes to the disk and closes the office.
     pub(crate) fn poke(&mut self, text: &str) -> Result<(), CaseFault> {
         self.close();
         self.disk.poke(text)
