@@ -40,7 +40,7 @@ word_of names.Seats = codes "seats"
 abbrev pub disk_rules : List Rule
 disk_rules = argument_rule (codes "setup") ∷ argument_rule (codes "disk") ∷ []
 
--- a set-up, and either a disk, with or without a flag, or a sheet
+-- a set-up; a disk, the flag `--final` and a sheet, each of which can be left out
 abbrev pub source_rules : List Rule
 source_rules =
     argument_rule (codes "setup") ∷ option_rule (codes "disk") ∷ flag_rule (codes "final") ∷ option_rule (codes "sheet") ∷ []
@@ -71,13 +71,13 @@ paths_of task = None
 abbrev pub ArePaths : List Row → Paths → Type 0
 ArePaths rows paths = (paths.setup.now ≡ path_in (codes "setup") rows) × (paths.disk.now ≡ path_in (codes "disk") rows)
 
--- these are the given paths of a check; the export can be left out
+-- these are the given paths of a check; that of the export can be left out
 pub record AreCheckPaths (rows : List Row) (paths : CheckPaths) : Type 0 where
   pub setup : paths.setup.now ≡ path_in (codes "setup") rows
   pub sheet : paths.sheet.now ≡ path_in (codes "sheet") rows
   pub held : option_map (λ path. path.now) paths.held ≡ first_of (codes "held") rows
 
--- the task of each command, by its arguments other than the paths of a set-up and a disk
+-- the task of each command; the paths of a task on a disk are left to `AsksWith`
 abbrev pub IsTaskOf : CommandName → List Row → Task → Type 0
 IsTaskOf names.Format rows (tasks.Format paths) = Unit {0}
 IsTaskOf names.Run rows (tasks.Run paths) = Unit {0}
@@ -96,12 +96,12 @@ IsTaskOf names.Seats rows (tasks.SheetSeats setup sheet layout) =
     × (sheet.now ≡ path_in (codes "sheet") rows) × (layout_in rows ≡ Some layout)
 IsTaskOf name rows task = ⊥
 
--- the task that each command asks for, by all its arguments
+-- the task that each command asks for, with its paths
 abbrev pub AsksWith : CommandName → List Row → Task → Type 0
 AsksWith name rows task = IsTaskOf name rows task × IfSome (paths_of task) (ArePaths rows)
 
--- how a command can be misused though clap accepts it: a value that does not name a table, rows of votes or records of seats, flags
--- that exclude one another, or not exactly one source of seats
+-- how a command can be misused though clap accepts it: a value that does not name a table, its part, rows of votes or records of seats;
+-- flags that exclude one another; not exactly one source of seats, or `--final` with a sheet
 abbrev pub misuse_of : CommandName → List Row → Option Misuse
 misuse_of names.List rows = if is_none (table_in rows) then Some misuses.Table else None
 misuse_of names.Status rows = if is_none (view_in rows) then Some misuses.Flags else None

@@ -1,4 +1,4 @@
--- What clap reads of an argument and of a command.
+-- What clap reads from an argument and from a command.
 use Rattle.std.specs.Prelude.{◌≡◌, List, [], Some, codes, false, fold, true}
 use Rattle.clap.specs.Words.{App, Rule, Text, app_of, new_app, new_rule, rule_of, with_rule}
 use Rattle.clap.specs.declared.builder.action.ArgAction.TheVariants.{SetTrue}
@@ -6,7 +6,7 @@ use Rattle.clap.specs.declared.builder.arg.Arg.{Arg}
 use Rattle.clap.specs.declared.builder.command.Command.{Command}
 use Rattle.clap.specs.declared.builder.command.Command.TheViews.{out-Command as fields_of}
 
--- clap reads this rule of an argument, which is not global
+-- clap reads this rule from an argument, which is not global
 abbrev pub IsArgument : Arg → Rule → Type 0
 IsArgument argument rule = (rule_of argument ≡ rule) × (argument.global ≡ false)
 
@@ -26,7 +26,7 @@ flag_rule name = record (new_rule name) { long = Some name; action = Some SetTru
 abbrev pub command_taking : Text → List Rule → App
 command_taking name rules = fold with_rule (new_app name) rules
 
--- clap reads this of a command, and none of its arguments is global
+-- this is what clap reads from a command; none of its arguments is global
 abbrev pub IsCommand : Command → App → Type 0
 IsCommand command app = (app_of command ≡ app) × ((fields_of command).has_globals ≡ false)
 

@@ -9,7 +9,7 @@ use Rattle.zh_tables.specs.declared.tables.Part.TheVariants.{Whole, Municipality
 use Rattle.zh_tables.specs.declared.tables.Table.{Table}
 use Rattle.zh_tables.specs.declared.tables.Table.TheVariants.{Constituencies, Municipalities, Groups, Lists, Problems, Returns}
 
--- the path given after `--name`; clap makes sure that there is one
+-- the value given after `--name`, empty if there is none; clap makes sure that there is a required one
 abbrev pub path_in : Text → List Row → Text
 path_in name rows = unwrap_or (first_of name rows) []
 
@@ -17,7 +17,8 @@ path_in name rows = unwrap_or (first_of name rows) []
 abbrev pub number_in : Text → Option ℕ
 number_in text = let n = digits_value 10 text in if nat_lt n (2 ^ 32) && bytes_eq text (decimal n) then Some n else None
 
--- the part of the set-up: a municipality or a constituency by its number, or the whole
+-- the part of the set-up: a municipality or a constituency by its number, or the whole if neither is given; none if both are given, or a
+-- text that is not a numeral
 abbrev pub part_of : Option Text → Option Text → Option Part
 part_of None None = Some Whole
 part_of (Some m) None = option_map Municipality (number_in m)

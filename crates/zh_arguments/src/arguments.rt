@@ -28,18 +28,18 @@ pub struct Paths<'a> {
 /// What the program is asked to do.
 #[derive(Clone, Copy)]
 pub enum Task<'a> {
-    /// Serve the rehearsal's set-up on a disk in memory.
+    /// Answer the lines of the input with the rehearsal's set-up, on a disk in memory.
     Rehearse,
-    /// Format a disk, so that nothing has been returned on it.
+    /// Format a disk that is blank or missing.
     Format(Paths<'a>),
-    /// Serve on a disk.
+    /// Answer the lines of the input and keep the count on a disk.
     Run(Paths<'a>),
     /// Load the returns of a CSV file as one batch.
     Load {
         paths: Paths<'a>,
         csv: &'a str,
     },
-    /// Report what a load of that file would do, and store nothing.
+    /// Report what a load of a CSV file would do, and store nothing.
     DryRun {
         paths: Paths<'a>,
         csv: &'a str,
@@ -53,7 +53,7 @@ pub enum Task<'a> {
     },
     /// Check a published sheet.
     Check(CheckPaths<'a>),
-    /// Write the seats of a published sheet.
+    /// Check a published sheet and write its seats.
     SheetSeats {
         setup: &'a str,
         sheet: &'a str,
@@ -63,7 +63,7 @@ pub enum Task<'a> {
     Version,
 }
 
-/// The path given after `--name`. A command that requires the path is not accepted without it.
+/// The value given after `--name`, or an empty text if there is none. clap refuses a command without a required value.
 pub(crate) fn path_in<'a>(given: &ArgMatches<'a>, name: &str) -> &'a str
     ensures { result.now ≡ path_in name.now (rows_of (found_of given.now)) }
 {
@@ -148,14 +148,15 @@ pub fn read_arguments<'a>(alloc: Global, arguments: &'a [String]) -> Result<Task
 /// How a command that clap accepts was misused.
 #[derive(Clone, Copy)]
 pub(crate) enum Misuse {
-    /// `list` does not name a table.
+    /// The `--of` of `list` is not the name of a table. Or `--municipality` or `--constituency` is not a numeral, is given for
+    /// a table other than the returns, or is given together with the other.
     Table,
     /// `status` has more than one of its three flags.
     Flags,
-    /// `seats` does not name exactly one source, or has the flag `--final` with a sheet.
+    /// `seats` has both `--disk` and `--sheet`, neither of them, or `--final` with `--sheet`.
     Source,
-    /// `votes` does not name rows.
+    /// The `--of` of `votes` is neither `lists` nor `groups`.
     Votes,
-    /// `seats` does not name records.
+    /// The `--of` of `seats` is not `lists`, `groups` or `constituencies`.
     Layout,
 }

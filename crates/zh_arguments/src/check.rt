@@ -11,7 +11,8 @@ use crate::rules::{argument, option, with_setup};
 use clap::{ArgMatches, Command};
 use std::alloc::{AllocError, Global};
 
-/// The paths of the set-up, of a published sheet, and of the export that the sheet is compared with, if there is one.
+/// The paths of the set-up, of a published sheet, and of the export with whose sums its votes are compared, if there is
+/// one.
 #[derive(Clone, Copy)]
 pub struct CheckPaths<'a> {
     pub setup: &'a str,

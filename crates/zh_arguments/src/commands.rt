@@ -23,9 +23,9 @@ use zh_tables::View;
 pub enum Query {
     /// The returns, as CSV.
     Export,
-    /// How many returns are in.
+    /// How many returns are in, or which are missing or implausible.
     Status(View),
-    /// The votes so far, as CSV or as a table for reading.
+    /// The votes so far, as CSV or as a table for people.
     Votes { of: VotesOf, is_table: bool },
     /// The seats.
     Seats { is_final: bool, layout: Layout },

@@ -1,4 +1,4 @@
-//! What clap should read of an argument and of a command.
+//! The arguments and commands that clap is given.
 
 ghost use Rattle.std.specs.Prelude.{◌≡◌, [], ◌∷◌, IfOk, codes};
 ghost use Rattle.clap.specs.Words.{app_of};

@@ -17,7 +17,7 @@ use std::alloc::{AllocError, Global};
 /// What the seats are shown for.
 #[derive(Clone, Copy, Debug, PartialEq, Eq)]
 pub enum SeatsOf {
-    /// For each list that takes part.
+    /// For each list that stands.
     Lists,
     /// For each group.
     Groups,
@@ -25,7 +25,7 @@ pub enum SeatsOf {
     Constituencies,
 }
 
-/// The form of the seats: what they are shown for, and whether as CSV or as a table for reading.
+/// The form of the seats: what they are shown for, and whether as CSV or as a table for people.
 #[derive(Clone, Copy, Debug, PartialEq, Eq)]
 pub struct Layout {
     pub of: SeatsOf,
@@ -41,7 +41,8 @@ pub(crate) enum Source {
     Sheet,
 }
 
-/// A command that requires a set-up, and accepts either a disk, with or without a flag, or a sheet.
+/// A command that requires a set-up, and accepts a disk, the flag `--final` and a sheet. `source_of` says later which of
+/// them can be given together.
 fn with_source<'a>(alloc: Global, name: &'a str, about: &'a str) -> Result<Command<'a>, AllocError>
     ensures { IfOk result (λ command. IsCommand command (command_taking name.now source_rules)) }
 {
@@ -163,7 +164,7 @@ fn task_from<'a>(source: Source, layout: Layout, given: &ArgMatches<'a>) -> Task
     }
 }
 
-/// The task of showing seats, if the arguments name exactly one source and a form.
+/// The task of showing seats, or how the command was misused if the arguments do not name exactly one source and a form.
 pub(crate) fn seats_in<'a>(given: &ArgMatches<'a>) -> Result<Task<'a>, Misuse>
     ensures { MatchResult result (AsksWith names.Seats (rows_of (found_of given.now)))
         (λ misuse. misuse_of names.Seats (rows_of (found_of given.now)) ≡ Some misuse) }

@@ -14,7 +14,8 @@ use std::alloc::{AllocError, Global};
 use zh_tables::{Part, Table};
 use zh_text::numeral;
 
-/// A command that requires a set-up and a table, and accepts a part of the set-up for some tables.
+/// A command that requires a set-up and a table, and accepts a municipality and a constituency. `table_named` says later
+/// which table can be limited to one of them.
 pub(crate) fn list_command<'a>(
     alloc: Global,
     name: &'a str,
@@ -33,14 +34,15 @@ pub(crate) fn list_command<'a>(
         .arg(option(alloc, "constituency", "D", "Its returns alone"))
 }
 
-/// The number with this numeral.
+/// The number of a numeral, below 2^32, or `None` if the text is not one.
 fn number_in(text: &str) -> Option<u32>
     ensures { result ≡ number_in text.now }
 {
     numeral(text.as_bytes())
 }
 
-/// The part of the set-up: a municipality or a constituency by its number, or the whole.
+/// The part of the set-up: a municipality or a constituency by its number, or the whole if neither is given. `None` if both
+/// are given, or a text that is not a numeral.
 fn part_of(municipality: Option<&str>, constituency: Option<&str>) -> Option<Part>
     ensures { result ≡ part_of (option_map (λ s. s.now) municipality.entry) (option_map (λ s. s.now) constituency.entry) }
 {

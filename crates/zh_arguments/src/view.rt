@@ -13,7 +13,8 @@ use clap::{ArgMatches, Command};
 use std::alloc::{AllocError, Global};
 use zh_tables::View;
 
-/// A command that requires a set-up and a disk, and accepts one of three flags.
+/// A command that requires a set-up and a disk, and accepts three flags. `view_of` says later that they exclude one
+/// another.
 pub(crate) fn status_command<'a>(
     alloc: Global,
     name: &'a str,

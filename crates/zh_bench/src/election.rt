@@ -91,8 +91,8 @@ pub(crate) fn are_totals(lines: usize, totals: &[u32]) -> bool
     totals.len() == lines && totals.iter().all(|seats| (1..=400).contains(seats))
 }
 
-/// The seats of a house in proportion to these sums, or `None` if the seats are tied, a sum gets none, or a sum exceeds
-/// 10^14.
+/// The seats of a house in proportion to these sums, or `None` if a sum exceeds 10^14, all sums are 0, the seats are tied,
+/// or a sum gets none.
 fn totals_of(alloc: Global, sums: &[u64], house: u32) -> Result<Option<Shares>, AllocError>
     requires some { 1 ≤ length sums.now }
     requires few { length sums.now ≤ 32 }
@@ -140,7 +140,7 @@ fn run_find(
     Ok(())
 }
 
-/// Makes an election with votes of varying magnitude and notes its result.
+/// Makes an election with votes of varying magnitude and notes its result. One without totals is left out.
 fn run_made(
     alloc: Global,
     task: Task,
@@ -179,7 +179,8 @@ pub(crate) fn run_election(
     }
 }
 
-/// Decides a question and notes the seats if divisors in millionths give them.
+/// Decides a question and notes the seats if divisors in millionths give them; otherwise it is noted as exhausted. One whose
+/// row and column totals have different sums is left out.
 pub(crate) fn run_decision(
     alloc: Global,
     question: &Question<'_>,
@@ -198,7 +199,7 @@ pub(crate) fn run_decision(
     Ok(())
 }
 
-/// The votes of each cell.
+/// The votes of each cell of an election with equal votes.
 const VOTES: u64 = 1000;
 
 /// The seats of a house, divided as evenly as possible among this many lines.
@@ -215,7 +216,7 @@ fn even_totals(alloc: Global, lines: usize, house: u32) -> Result<Vec<u32>, Allo
     Ok(totals)
 }
 
-/// Searches for the seats and notes the tie with the range of seats of each cell.
+/// Searches for the seats and, if they are tied, notes this with the range of seats of each cell.
 fn run_lot(
     alloc: Global,
     matrix: &Matrix,

@@ -2,8 +2,8 @@
 //!
 //! Its arguments are `find`, `decide` for the decision alone, or `lot` for ties of equal votes; then the rows, the columns,
 //! the seats of the house, the number of elections, and the number of the first one, if it is not 1. It prints how many had
-//! seats, were tied and were exhausted, and a number that all divisors and seats go into, or all ranges of seats;
-//! `bench/search_bench.c` prints the same, of a search and a decision that were written apart from these.
+//! seats, were tied and were exhausted, and a number that all divisors and seats go into, or all ranges of seats.
+//! `bench/search_bench.c` prints the same for a search, a decision and a lot that were written independently of these.
 #![tactic(auto)]
 
 mod election;

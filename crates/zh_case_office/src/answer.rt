@@ -14,7 +14,7 @@ use zh_matrices::Question;
 /// What answers the question.
 #[derive(Clone, Copy)]
 pub enum Whom {
-    /// The search, and for the reason the decision where the search is exhausted.
+    /// The search. If it is exhausted, the decision gives the reason.
     Searches,
     /// The decision alone.
     Decision,
@@ -22,8 +22,8 @@ pub enum Whom {
     Lot,
 }
 
-/// The result of a decision. Seats come with their divisors if the decision alone was asked; otherwise the search missed
-/// them.
+/// The result of a decision. If it has seats, they come with their divisors if the decision alone was asked; otherwise
+/// they come after `missed`, because the search did not find them.
 fn decided(alloc: Global, question: &Question<'_>, whom: Whom) -> Result<String, AllocError>
     requires some_column { 1 ≤ question.now.columns }
     requires totals { AreSeatTotals question.now.rows question.now.row_totals.now }
@@ -101,7 +101,7 @@ fn drawn(
 /// The answer is `seats`, row by row, with the divisors of the rows and of the columns in millionths; `no votes` with a
 /// row; `tied` with a row and a column; or, if the search is exhausted, the reason: `impossible` with the rows, `nearly
 /// tied` with a row and a column, or `beyond` or `missed` with the seats. The decision answers `seats` with its own
-/// divisors, or such a reason. The lot answers `least` and `most` with seats, or `no tie`.
+/// divisors, or a reason other than `missed`. The lot answers `least` and `most` with seats, or `no tie`.
 pub fn answer_to(alloc: Global, text: &str, whom: Whom) -> Result<String, CaseFault> {
     let written = Written::read(alloc, text)?;
     let (row_totals, column_totals) = (

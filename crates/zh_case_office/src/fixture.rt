@@ -85,13 +85,13 @@ impl<'s> Fixture<'s> {
         self.disk.take_zeros()
     }
 
-    /// A power failure.
+    /// A power failure, which also closes the office. `how` says what it leaves of the bytes that were not synced.
     pub(crate) fn stop(&mut self, how: Stop) -> Result<(), CaseFault> {
         self.close();
         self.disk.stop(how)
     }
 
-    /// Writes bytes to the disk.
+    /// Writes bytes to the disk and closes the office.
     pub(crate) fn poke(&mut self, text: &str) -> Result<(), CaseFault> {
         self.close();
         self.disk.poke(text)
@@ -205,7 +205,7 @@ impl<'s> Fixture<'s> {
         }
     }
 
-    /// Why the lists of the office's count have no seats.
+    /// Why the office's count has no sheet, or `a sheet` if it has one.
     pub(crate) fn reason(&self) -> Result<String, CaseFault> {
         let mark = self.mark()?;
         match &self.office {

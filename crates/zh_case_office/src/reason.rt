@@ -36,7 +36,7 @@ fn push_lists(
     Ok(())
 }
 
-/// A word and the seats of the lists.
+/// A word and, for each list that has seats, its constituency, its group and its seats.
 fn with_lists(alloc: Global, word: &str, lists: &ListSeats) -> Result<String, AllocError> {
     let mut text = String::from_str(alloc, word)?;
     for place in 0..lists.constituencies() {
@@ -63,8 +63,8 @@ fn exhausted(
     }
 }
 
-/// Why the search for the seats of a count's lists is exhausted, or the earlier fault. `mark` is held open during the
-/// calls.
+/// Why the search for the seats of a count's lists is exhausted, or the earlier fault, or `a sheet` if there is one. `mark`
+/// is held open during the calls.
 pub fn reason_of(
     alloc: Global,
     count: &Count<'_>,

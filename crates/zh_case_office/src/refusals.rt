@@ -74,7 +74,7 @@ impl Fixture<'_> {
         Held::of(self.alloc, &self.office, self.disk.device()?)
     }
 
-    /// Keeps the contents of the disk and its office.
+    /// Keeps what the disk and the office's count contain.
     pub(crate) fn hold(&mut self) -> Result<(), CaseFault> {
         self.held = self.holdings()?;
         Ok(())
@@ -114,8 +114,8 @@ fn report_of(answer: &str) -> Report {
     }
 }
 
-/// Opens the office on a disk that failed during a turn. Returns whether it has `before` commands or one more. After
-/// formatting, the disk can also be blank, or hold the old count or the empty one.
+/// Opens the office on a disk that failed during a turn. Returns whether it has `before` commands or one more or, if the
+/// turn was a formatting, whether the disk is blank or has at most `before` commands.
 fn is_between(fixture: &mut Fixture<'_>, turn: &str, before: u64) -> Result<bool, CaseFault> {
     let opened = fixture.open()?;
     let accepted = fixture.accepted();

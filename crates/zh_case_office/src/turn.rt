@@ -147,7 +147,7 @@ fn turn_of(text: &str) -> (&str, &str) {
 
 /// Makes the turns that run the program.
 pub trait Runner {
-    /// The answer to such a turn, or `None` if this word does not ask for a run.
+    /// The answer to a turn that runs the program, or `None` if this word does not ask for a run.
     fn run(
         &self,
         rt: &HostRuntime,

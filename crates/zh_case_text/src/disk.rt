@@ -59,7 +59,7 @@ impl CaseDisk {
         image_of(alloc, self.device()?)
     }
 
-    /// The number of calls of each kind since `calls` was last asked.
+    /// The number of calls of each kind since `calls` was last asked or the case took a disk.
     pub fn calls(&mut self) -> Result<String, CaseFault> {
         let alloc = self.alloc;
         let disk = self.device()?;
@@ -86,7 +86,7 @@ impl CaseDisk {
         }
     }
 
-    /// Makes the disk fail after this many calls.
+    /// Makes every call of the disk fail after this many more.
     pub fn fail(&mut self, calls: u64) -> Result<(), CaseFault> {
         self.device = Some(failing(self.take_memory()?, calls));
         Ok(())
@@ -104,7 +104,7 @@ impl CaseDisk {
         Ok(())
     }
 
-    /// A power failure.
+    /// A power failure. `how` says what it leaves of the bytes that were not synced.
     pub fn stop(&mut self, how: Stop) -> Result<(), CaseFault> {
         let mut disk = self.take_memory()?;
         disk.stop(how);
@@ -120,7 +120,7 @@ impl CaseDisk {
         Ok(image)
     }
 
-    /// Writes bytes to the disk.
+    /// Takes a disk like this one, with these bytes from a place on.
     pub fn poke(&mut self, text: &str) -> Result<(), CaseFault> {
         let image = self.damaged(text)?;
         self.take_image(&image)
@@ -143,7 +143,7 @@ impl CaseDisk {
         Ok(())
     }
 
-    /// Restores that copy.
+    /// Restores the copy that `keep` made.
     pub fn back(&mut self) -> Result<(), CaseFault> {
         let image = self.marked.as_slice().to_vec(self.alloc)?;
         self.take_image(&image)
@@ -211,7 +211,7 @@ pub(crate) fn whole(disk: MemoryDisk) -> Device {
     device(disk, NEVER, NEVER)
 }
 
-/// A disk that fails after so many calls.
+/// A disk on which every call fails after this many.
 pub(crate) fn failing(disk: MemoryDisk, calls: u64) -> Device {
     device(disk, calls, NEVER)
 }

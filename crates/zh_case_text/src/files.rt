@@ -5,7 +5,7 @@ use crate::words::read_bytes;
 use std::io::ErrorKind;
 use std::{env, fs};
 
-/// A name and the text after it.
+/// The name before the first `end`, and the text after it.
 fn named<'t>(text: &'t str, end: char) -> Result<(&'t str, &'t str), CaseFault> {
     text.split_once(end)
         .ok_or(CaseFault::Text("a name and more are needed"))
@@ -58,7 +58,7 @@ fn replace(
     save(rt, to, text.as_str().as_bytes())
 }
 
-/// Removes a file.
+/// Removes a file. The answer is `missing` if there is none.
 fn remove(rt: &HostRuntime, name: &str) -> Result<&'static str, CaseFault> {
     match fs::remove_file(rt, name) {
         Ok(()) => Ok("ok"),

@@ -13,7 +13,7 @@ pub struct NumberedLine {
     pub text: String,
 }
 
-/// The text before the comment. A line in quotes has no comment.
+/// The text before the comment. A line that begins with a quote has no comment.
 fn without_comment(line: &str) -> &str {
     let line = line.trim();
     if line.starts_with('"') {
@@ -173,7 +173,7 @@ fn value_of(
     }
 }
 
-/// A text with the name replaced by the value wherever it is in braces.
+/// A text in which the value replaces each `{NAME}`, and the changed value each `{NAME+5}` or `{NAME-5}`.
 pub(crate) fn with_value(
     alloc: Global,
     text: &str,

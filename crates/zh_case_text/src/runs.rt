@@ -23,7 +23,8 @@ pub fn arguments_in(alloc: Global, text: &str) -> Result<Vec<String>, CaseFault>
     Ok(arguments)
 }
 
-/// The answer of a run: its status, the lines of its output, each after a separator, and the lines of its standard error.
+/// The answer of a run: its status, the lines of its output, each after the separator, and the lines of its standard error,
+/// each after ` | `.
 pub fn answer_of(
     alloc: Global,
     status: u8,
@@ -37,8 +38,8 @@ pub fn answer_of(
     Ok(answer)
 }
 
-/// How much succeeds before everything fails: calls at paths, reads of each text, calls of the disk's file, and bytes of
-/// the input and the output.
+/// How many calls of each kind succeed before the others fail: calls at paths, reads of each text, and calls of the disk's
+/// file. And how many bytes of the input and of the output.
 #[derive(Clone, Copy)]
 pub struct Passes {
     pub files: u64,

@@ -33,7 +33,7 @@ pub fn with_numbers(alloc: Global, text: &str, numbers: &[u64]) -> Result<String
     Ok(text)
 }
 
-/// Appends the lines of a text, each after a separator.
+/// Appends the lines of a text, each after the separator. An empty answer gets no separator before the first line.
 pub fn push_lines(answer: &mut String, separator: &str, text: &[u8]) -> Result<(), CaseFault> {
     let Ok(text) = str::from_utf8(text) else {
         return Err(CaseFault::Text("an answer is no text"));
@@ -47,7 +47,7 @@ pub fn push_lines(answer: &mut String, separator: &str, text: &[u8]) -> Result<(
     Ok(())
 }
 
-/// The lines of a text, with a separator between them.
+/// The lines of a text, with `; ` between them.
 pub fn lines_in(alloc: Global, text: &[u8]) -> Result<String, CaseFault> {
     let mut lines = String::new(alloc);
     push_lines(&mut lines, "; ", text)?;

@@ -10,7 +10,8 @@ use zh_case_text::{
 use zh_file::{Ended, FolderFiles, HostFolder, MemoryFolder, Remark, Start, Stood, World};
 use zh_program::{Filmed, Used, program};
 
-/// Represents whatever a file in the folder contains when it is opened.
+/// The type given for the content of a disk file in the folder when it is opened. It claims an empty file, whatever the
+/// content is.
 #[derive(Drop)]
 struct AnyContent;
 
@@ -26,7 +27,7 @@ impl Start for AnyContent {
     }
 }
 
-/// Runs the program with these arguments and this input. `S` represents the contents of its disk file.
+/// Runs the program with these arguments and this input. `S` is the type given for the content of its disk file.
 fn run_on_files<S: Start>(
     rt: &HostRuntime,
     start: S,
@@ -57,11 +58,11 @@ pub(crate) fn run_program(rt: &HostRuntime, text: &str) -> Result<String, CaseFa
 /// The path of the case's disk. There is no other disk.
 const DISK: &str = "disk";
 
-/// The right to that disk.
+/// The right to open the case's disk.
 #[derive(Drop)]
 struct OneDisk;
 
-/// A folder in memory with the files that the arguments name and the case's disk.
+/// A folder in memory with the files that the arguments name, except those that can't be read, and the case's disk.
 fn folder_of(
     rt: &HostRuntime,
     arguments: &[String],

@@ -16,18 +16,19 @@ pub record LiesOnHalf (n p : ℕ) : Type 0 where
   pub whole : ℕ
   pub half : 2 * n ≡ (2 * whole + 1) * p
 
--- what n / p rounds to, if it does
+-- what is said of n / p: what it rounds to and that it is not on a half, that it is on a half, or that p is 0
 abbrev pub IsQuotient : ℕ → ℕ → ListQuotient → Type 0
 IsQuotient n p (RoundsTo s) = Rounds n p s
 IsQuotient n p OnHalf = LiesOnHalf n p
 IsQuotient n p NoDivisor = p ≡ 0
 
--- the votes over both divisors, in millionths, round to the seats and are not on a half; without a divisor of the group there are no seats
+-- the votes over both divisors, which are in millionths, round to the seats and are not on a half; without a divisor of the group there are
+-- no seats
 pub record DoSeatsFollow (list : ShownList) : Type 0 where
   pub none : list.column_divisor ≡ 0 → list.seats ≡ 0
   pub rounds : 0 < list.column_divisor → Rounds (list.votes * (1000000 * 1000000)) (list.row_divisor * list.column_divisor) list.seats
 
--- the list at a place, by constituency and group, as a text shows it
+-- the list at a place, from 0, by constituency and group, as a text shows it
 abbrev pub shown_list : Canton → List ℕ → ℕ → ShownList
 shown_list canton text place = record {
   votes = slice_index (votes_read canton text) place;

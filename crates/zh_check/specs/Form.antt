@@ -1,4 +1,5 @@
--- The form of a sheet: what its lines say whatever the votes are. The words that only votes can give are taken from the text.
+-- The form of a sheet: what its lines say by the set-up alone. The words that the set-up does not give are taken from the text if they are
+-- possible there; dots replace the others.
 use Rattle.std.specs.Prelude.{◌≡◌, ℕ, ◌==◌, ◌&&◌, ◌||◌, not, Bool, false, Option, Some, None, MatchOption, unwrap_or, if◌then◌else◌, codes}
 use Rattle.std.specs.Prelude.{List, [], ◌∷◌, ◌++◌, decimal, filter, length, nat_le}
 use Rattle.std.specs.Char.{is_ascii_digit}
@@ -20,7 +21,7 @@ use Rattle.zh_check.specs.declared.checked.WrongLine.{WrongLine}
 abbrev pub is_number : List ℕ → Bool
 is_number word = bytes_eq word (decimal (number_of_word word))
 
--- such a number from low to high
+-- a number, written as sheets write it, from low to high
 abbrev pub is_number_from : ℕ → ℕ → List ℕ → Bool
 is_number_from low high word = is_number word && (nat_le low (number_of_word word) && nat_le (number_of_word word) high)
 
@@ -35,7 +36,8 @@ is_digit_or mark byte = is_ascii_digit byte || byte == mark
 abbrev pub is_made_of_digits : ℕ → List ℕ → Bool
 is_made_of_digits mark word = not (length word == 0) && list_all (is_digit_or mark) word
 
--- whether a word is possible at a part; if its number is read, the word has to be what a sheet writes for that number
+-- whether a word is possible at a part that the set-up does not give; if its number is read, the word has to be what a sheet writes for
+-- that number
 abbrev pub fits : SheetPart → List ℕ → Bool
 fits Desk word = is_number_from 1 8 word
 fits Kind word = bytes_eq word (codes "provisional") || bytes_eq word (codes "final")
@@ -88,7 +90,7 @@ abbrev pub in_forms : Canton → List SheetLine → List ℕ → List ℕ
 in_forms canton [] text = []
 in_forms canton (line ∷ lines) text = line_form canton line text ++ in_forms canton lines (after_if line.is_there text)
 
--- the form of a sheet with the words of a text; with an empty text it has dots for each word that only votes can give
+-- the form of a sheet with the words of a text; with an empty text it has dots for each word that the set-up does not give
 abbrev pub formed : Canton → List ℕ → List ℕ
 formed canton text = in_forms canton (sheet_lines canton) text
 

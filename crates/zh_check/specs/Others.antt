@@ -35,11 +35,11 @@ pub record IsOtherVotes (canton : Canton) (text votes held : List ℕ) (other : 
   pub line : line_of_votes canton place ≡ before + 1
   pub said : IsOther text before (slice_index held place) other
 
--- the votes that a text shows are those held, if there are any
+-- if the votes held are given, they are those that a text shows
 abbrev pub HasHeldVotes : Canton → Option VoteTotals → List ℕ → Type 0
 HasHeldVotes canton held text = IfSome held (λ h. votes_read canton text ≡ h.votes)
 
--- they are not; if the totals are of as many lists, this is the first list whose votes differ
+-- they are not those held; if the totals are of as many lists, this is the first list whose votes differ
 pub record HasOtherVotes (canton : Canton) (held : Option VoteTotals) (text : List ℕ) (other : OtherVotes) : Type 0 where
   pub votes : ¬ HasHeldVotes canton held text
   pub list : IfSome held (λ h. length h.votes ≡ length (votes_read canton text) →

@@ -28,7 +28,7 @@ words_at test [] text = []
 words_at test (line ∷ lines) text =
     words_in test line.parts (line_if line.is_there text) ++ words_at test lines (after_if line.is_there text)
 
--- the parts that are read have the same kind
+-- whether two parts are of the same kind, one of the seven that are read
 abbrev pub is_like : SheetPart → SheetPart → Bool
 is_like Desk Desk = true
 is_like Kind Kind = true
@@ -39,7 +39,7 @@ is_like (ListVotes d g) (ListVotes e h) = true
 is_like (ListSeats d g) (ListSeats e h) = true
 is_like part other = false
 
--- the last of some values, or the earlier one if there are none
+-- the last of some values, or `before` if there are none
 abbrev pub latest : {A : Type 0} → A → List A → A
 latest before [] = before
 latest before (value ∷ values) = latest value values
@@ -90,7 +90,8 @@ pub record IsRead (canton : Canton) (text : List ℕ) (read : Values) : Type 0 w
   pub votes : read.votes.items ≡ votes_read canton text
   pub seats : read.seats.items ≡ seats_read canton text
 
--- the lines between the first line and the constituencies: the house, two divisors of seats, and a canton-wide quorum if there is one
+-- the number of lines between the first line and the constituencies: the house, two divisors of seats, and a canton-wide quorum if there
+-- is one
 abbrev pub lines_above : Canton → ℕ
 lines_above canton = option_map_or (λ _. 4) canton.canton_quorum 3
 

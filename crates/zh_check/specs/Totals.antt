@@ -50,13 +50,13 @@ pub record IsOffAmong (sum : ℕ → ℕ) (totals text : List ℕ) (before : ℕ
 abbrev pub FindsOffAmong : (ℕ → ℕ) → List ℕ → List ℕ → ℕ → Option OffTotal → Type 0
 FindsOffAmong sum totals text before found = MatchOption found (AreMet sum totals) (IsOffAmong sum totals text before)
 
--- the seats of the lists of a constituency do not add up to its seats, which follow from the persons
+-- this is the first constituency whose lists do not add up to its seats, which follow from the persons
 pub record IsOffConstituency (canton : Canton) (text : List ℕ) (off : OffTotal) : Type 0 where
   pub totals : List ℕ
   pub follow : HaveSeats (totals_read canton text) totals
   pub first : IsOffAmong (constituency_sum canton text) totals text (1 + lines_above canton) off
 
--- those of each constituency do, but those of a group do not add up to its seats, which follow from the votes
+-- those of each constituency do, and this is the first group whose lists do not add up to its seats, which follow from the votes
 pub record IsOffGroup (canton : Canton) (text : List ℕ) (off : OffTotal) : Type 0 where
   pub targets : Targets (totals_read canton text)
   pub constituencies : AreMet (constituency_sum canton text) targets.seats
@@ -104,7 +104,7 @@ pub record AreGroupSeats (totals : VoteTotals) (seats upper : List ℕ) : Type 0
   pub sums : AreVoterSums totals seats voters
   pub groups : AreUpperSeats voters taking totals.canton.house upper
 
--- the groups get no seats, for one of the reasons
+-- the groups get no seats; the refusal says why
 pub record HaveNoGroupSeats (totals : VoteTotals) : Type 0 where
   pub refusal : UpperRefusal
   pub refused : IsRefusedAbove totals refusal

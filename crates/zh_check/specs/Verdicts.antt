@@ -19,7 +19,7 @@ use Rattle.zh_check.specs.declared.checked.WrongLine.{WrongLine}
 abbrev pub right_text : RightSheet → List ℕ
 right_text c = sheet_text c.sheet c.desk c.is_final c.accepted
 
--- the bytes are the text of a distribution of this set-up, with the votes held if there are any, for a desk from 1 to 8
+-- the bytes are the text of a published distribution of this set-up, for a desk from 1 to 8; its votes are those held, if these are given
 pub record IsRight (canton : Canton) (held : Option VoteTotals) (bytes : List ℕ) (c : RightSheet) : Type 0 where
   pub desk : (1 ≤ c.desk) × (c.desk ≤ 8)
   pub accepted : c.accepted ≤ 2 ^ 64 - 1
@@ -50,7 +50,7 @@ pub record DiffersFromSheet (canton : Canton) (bytes : List ℕ) (wrong : WrongL
   pub other : bytes ≢ right_text sheet
   pub line : DiffersAt bytes (right_text sheet) (right_text sheet) wrong
 
--- if the verdict is right, this is the right sheet; otherwise there is none
+-- with the verdict `Right`, the bytes are the text of this right sheet; with any other, they are not that of a right sheet
 abbrev pub IsRightExactly : Canton → Option VoteTotals → List ℕ → SheetVerdict → Type 0
 IsRightExactly canton held bytes (Right c) = IsRight canton held bytes c
 IsRightExactly canton held bytes verdict = (c : RightSheet) → ¬ IsRight canton held bytes c

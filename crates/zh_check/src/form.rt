@@ -15,8 +15,8 @@ use zh_districts::Setup;
 use zh_sheet_text::{LineParts, SheetPart, label_text, line_at, line_count, mark_after};
 use zh_text::{millionths_text, push_number};
 
-/// A text in the form of a sheet. At each part it has what the set-up says. If only votes can give the word, it has
-/// that of the text if it is possible there, otherwise dots.
+/// A text in the form of a sheet. At each part it has what the set-up says. If the set-up does not give the word, it
+/// has that of `text` if it is possible there, otherwise dots.
 fn formed(alloc: Global, setup: &Setup, text: &[u8]) -> Result<Vec<u8>, AllocError>
     ensures { IfOk result (λ found. found.items ≡ formed setup.now text.now) }
 {
@@ -89,7 +89,7 @@ fn push_part(
     }
 }
 
-/// Appends the form of a line.
+/// Appends the form of a line with these parts, with the words of `line`.
 fn push_parts(
     text: &mut Vec<u8>,
     setup: &Setup,
@@ -133,7 +133,7 @@ fn is_number(word: &[u8]) -> bool
     word == Buffer::new().format(number_of_word(word)).as_bytes()
 }
 
-/// Whether a word is such a number, from `low` to `high`.
+/// Whether a word is a number as sheets write it, from `low` to `high`.
 fn is_number_from(low: u64, high: u64, word: &[u8]) -> bool
     ensures { result ≡ is_number_from low high word.now }
 {
@@ -174,7 +174,7 @@ fn is_made_of_digits(mark: u8, word: &[u8]) -> bool
     !word.is_empty() && are_digits_or(mark, word)
 }
 
-/// Whether a word is possible at a part.
+/// Whether a word is possible at a part. At a part that the set-up gives, no word is.
 fn does_fit(part: SheetPart, word: &[u8]) -> bool
     ensures { result ≡ fits part word.now }
 {

@@ -1,4 +1,4 @@
-//! The check of a published sheet: whether it follows from its votes, and from those that are held.
+//! The check of a published sheet: whether it follows from its votes, and whether these are the votes held.
 #![tactic(auto)]
 
 mod checked;

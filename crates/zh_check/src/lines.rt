@@ -1,4 +1,5 @@
-//! Reading a text line by line. Nothing is refused here, because what is read is compared with the text later.
+//! Reading a text line by line. Nothing is refused here: the check later makes a text from what was read and compares
+//! the two.
 ghost use Rattle.std.specs.List.{after_first, before_first};
 ghost use Rattle.std.specs.Prelude.{◌≡◌, ◌==◌, ◌-◌, ◌^◌, ◌∷◌, ◌↔◌, [], ℕ, IfOk, IsTrue, min, position, ◌≢◌, false};
 ghost use Rattle.zh_check.specs.Differences.{DiffersAt};
@@ -9,7 +10,7 @@ use crate::checked::WrongLine;
 use std::alloc::{AllocError, Global};
 use std::marker::Model;
 
-/// The rest of a text.
+/// The part of a text that is still to be read.
 #[derive(Drop)]
 pub(crate) struct Lines<'a> {
     rest: &'a [u8],
@@ -23,14 +24,14 @@ impl<'a> Model for Lines<'a> {
     ghost view = { λ lines. lines.rest.now };
 }
 
-/// The index of the first such byte.
+/// The index of the first `byte` in a text.
 fn first_place(text: &[u8], byte: u8) -> Option<usize>
     ensures { result ≡ position (λ b. b == byte) text.now }
 {
     text.iter().position(|b| *b == byte)
 }
 
-/// The bytes before the first such byte, and those after it. Without such a byte, all bytes and none.
+/// The bytes before and after the first `byte`. If there is none, all bytes and an empty slice.
 fn split_first(text: &[u8], byte: u8) -> (&[u8], &[u8])
     ensures before { result.0.now ≡ before_first (λ b. b == byte) text.now }
     ensures after { result.1.now ≡ after_first (λ b. b == byte) text.now }

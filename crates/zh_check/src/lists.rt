@@ -41,7 +41,7 @@ pub(crate) struct ShownList {
     pub seats: u32,
 }
 
-/// What the votes of a list over both of its divisors round to.
+/// What the votes of a list over both of its divisors round to, unless they are on a half or a divisor is missing.
 fn quotient(list: ShownList) -> ListQuotient
     ensures { IsQuotient (list.votes * (1000000 * 1000000)) (list.row_divisor * list.column_divisor) result }
 {
@@ -63,7 +63,7 @@ fn do_seats_follow(list: ShownList) -> bool
     }
 }
 
-/// The list on the line after the first `before` lines, with its quotient.
+/// The report of a list on the line after the first `before` lines, with its quotient.
 fn off_list(alloc: Global, text: &[u8], before: u32, list: ShownList) -> Result<OffList, AllocError>
     ensures line { IfOk result (λ off. off.line ≡ before + 1) }
     ensures found { IfOk result (λ off. off.found.items ≡ first_line (after_lines before text.now)) }

@@ -35,8 +35,8 @@ fn other_after(alloc: Global, text: &[u8], before: u32, held: u64) -> Result<Oth
     })
 }
 
-/// The first list whose votes differ from those held. If there is none, as `held` can be of another set-up, the first line
-/// is reported.
+/// The first list whose votes differ from those held. If there is none, which is possible if `held` is of another set-up,
+/// the first line is reported.
 fn other_votes(
     alloc: Global,
     setup: &Setup,

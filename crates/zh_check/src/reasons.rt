@@ -60,7 +60,8 @@ fn first_off_group(
     Ok(Some(off))
 }
 
-/// The first total that the seats of the lists do not add up to. Constituencies come before groups.
+/// The first total that the seats of the lists do not add up to, among those that follow. Constituencies come before
+/// groups.
 fn first_off_total(
     alloc: Global,
     setup: &Setup,
@@ -167,7 +168,7 @@ pub(crate) fn off_total(
     })
 }
 
-/// The seats of the constituencies, or `None` if the persons give them none.
+/// The seats of the constituencies, or `None` if they are tied or one of them gets no seat.
 pub(crate) fn constituency_seats(alloc: Global, setup: &Setup) -> Result<Option<Shares>, AllocError>
     ensures { IfOk result (FindsConstituencySeats setup.now) }
 {
@@ -190,7 +191,8 @@ fn each_seats(alloc: Global, upper: &Upper, groups: u32) -> Result<Vec<u32>, All
     Ok(seats)
 }
 
-/// The seats of the groups that follow from the votes and the seats of the constituencies, or `None` if they get none.
+/// The seats of the groups that follow from the votes and the seats of the constituencies, or `None` if no group takes
+/// part, none has voters, or the seats are tied.
 pub(crate) fn group_seats(
     alloc: Global,
     totals: &Totals<'_>,

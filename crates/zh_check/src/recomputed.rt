@@ -36,7 +36,7 @@ pub(crate) struct Values {
     pub seats: Vec<u32>,
 }
 
-/// Reads the word at a part.
+/// Reads the word at a part, if it is one of the parts that are read.
 fn read_word(values: &mut Values, part: SheetPart, word: &[u8]) -> Result<(), AllocError>
     ensures { OnOk result (AddsWords (λ test. if test part then word.now ∷ [] else []) values.old values.new) }
 {
@@ -111,7 +111,7 @@ pub(crate) fn read(alloc: Global, setup: &Setup, text: &[u8]) -> Result<Values, 
     Ok(values)
 }
 
-/// Whether there is a desk of this number.
+/// Whether this is the number of a desk, 1 to 8.
 fn is_desk(number: u64) -> bool
     ensures { IsTrue result ↔ (1 ≤ number) × (number ≤ 8) }
 {
@@ -188,7 +188,7 @@ pub(crate) fn column_divisors(alloc: Global, divisors: &[u64]) -> Result<Vec<u64
     divisors.iter().copied().filter(|x| *x > 0).collect(alloc)
 }
 
-/// Appends the seats of a constituency's lists, only of groups with a divisor.
+/// Appends the seats of a constituency's lists, but only those of groups with a divisor.
 fn push_columns(
     columns: &mut Vec<u32>,
     setup: &Setup,

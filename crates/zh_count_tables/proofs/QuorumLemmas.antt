@@ -1,4 +1,4 @@
--- The quorum of a list, as yes or no.
+-- The quorum of a list, as a Boolean function.
 use Rattle.std.proofs.Common.{arith}
 use Rattle.zh_totals.specs.Totals.{VoteTotals}
 use Rattle.zh_count_tables.specs.Quorums.{TellQuorums, reaches_quorum}

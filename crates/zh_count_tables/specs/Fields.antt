@@ -1,4 +1,5 @@
--- Tables for people with a line for each group or constituency and one for all below them, and a column for each of some fields.
+-- The tables for people that have a line for each group or constituency, and a line `total` below them: their columns, and the cells of
+-- each line.
 use Rattle.std.specs.Prelude.{ℕ, ◌-◌, Bool, false, List, [], ◌∷◌, codes, decimal, slice_index, slice_index_or}
 use Rattle.zh_districts.specs.Canton.{persons_of}
 use Rattle.zh_returns.specs.Tally.{Tally}
@@ -29,7 +30,7 @@ heading Voters = codes "voters"
 heading Divisor = codes "divisor"
 heading Seats = codes "seats"
 
--- the field of a column; the first column has the names
+-- the field of a column, from 0; past the end it is the name
 abbrev pub field_at : List Field → ℕ → Field
 field_at fields column = slice_index_or fields column Name
 
@@ -43,7 +44,7 @@ constituency_fields = Name ∷ Persons ∷ Votes ∷ Divisor ∷ Seats ∷ []
 abbrev pub vote_fields : List Field
 vote_fields = Name ∷ Held ∷ Due ∷ Quorum ∷ Votes ∷ []
 
--- the cell of a group, and of a constituency, of a sheet; a dash if it has no voter sum or divisor
+-- the cell of a group, and of a constituency, of a sheet; a dash if it has no voter sum or divisor; empty for a field of another table
 abbrev pub field_of_group : Distribution → ℕ → Field → List ℕ
 field_of_group x g Name = name_of_group x.totals.canton g
 field_of_group x g Quorum = yes_or_no (takes_part x g)
@@ -70,7 +71,7 @@ field_of_votes tally taking g Quorum = yes_or_no (slice_index_or taking (g - 1) 
 field_of_votes tally taking g Votes = decimal (group_votes (totals_of tally) g)
 field_of_votes tally taking g field = []
 
--- the cell in the line for all
+-- the cell in the line `total`: only the name, the votes and the seats are not empty
 abbrev pub field_of_all : VoteTotals → Field → List ℕ
 field_of_all totals Name = codes "total"
 field_of_all totals Votes = decimal (all_votes totals)

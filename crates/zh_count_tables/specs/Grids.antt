@@ -18,7 +18,7 @@ use Rattle.zh_count_tables.specs.declared.fields.Field.{Field}
 use Rattle.zh_count_tables.specs.declared.votes.VotesOf.{VotesOf}
 use Rattle.zh_count_tables.specs.declared.votes.VotesOf.TheVariants.{Lists, Groups}
 
--- the groups of a sheet: a line for each, and one for all below them
+-- the groups of a sheet: a line for each, and a line `total` below them
 abbrev pub group_cell : Distribution → TablePlace → Field → List ℕ
 group_cell x Head field = heading field
 group_cell x (At g) field = field_of_group x g field
@@ -31,7 +31,7 @@ group_grid x = record {
   cell = λ line column. group_cell x (table_place (length x.totals.canton.groups) line) (field_at group_fields column);
 }
 
--- the constituencies of a sheet, in the same way
+-- the constituencies of a sheet: a line for each, and a line `total` below them
 abbrev pub constituency_cell : Distribution → TablePlace → Field → List ℕ
 constituency_cell x Head field = heading field
 constituency_cell x (At d) field = field_of_constituency x d field
@@ -89,7 +89,8 @@ constituency_table_text x mark = title mark ++ grid_text (constituency_grid x)
 abbrev pub votes_title : ℕ → List ℕ
 votes_title accepted = codes "votes so far, " ++ decimal accepted ++ codes " commands\n"
 
--- the table of the votes so far: a group takes part if one of its lists reaches its quorum, or if it reaches that of the whole canton
+-- the table of the votes so far; a group would take part if one of its lists reaches the quorum of its constituency, or if the group
+-- reaches that of the whole canton, if there is one
 abbrev pub IsVotesGrid : Tally → VotesOf → Grid → Type 0
 IsVotesGrid tally Lists grid = grid ≡ list_grid tally
 IsVotesGrid tally Groups grid = (taking : List Bool) × AreParticipating (totals_of tally) taking × (grid ≡ vote_grid tally taking)

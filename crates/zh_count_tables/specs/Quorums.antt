@@ -1,4 +1,4 @@
--- Which lists reach the quorum of their constituency (GPR section 102), as a function to yes or no.
+-- Which lists reach the quorum of their constituency (GPR section 102), as a Boolean function.
 use Rattle.std.specs.Prelude.{ℕ, ◌*◌, ◌≤◌, ◌↔◌, ◌&&◌, nat_le, nat_lt, Bool, IsTrue, length}
 use Rattle.zh_quorum.specs.Quorum.{ReachesQuorum}
 use Rattle.zh_totals.specs.Totals.{VoteTotals, votes_in, constituency_votes}

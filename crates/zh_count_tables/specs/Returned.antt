@@ -12,11 +12,11 @@ abbrev pub lies_within : Canton → Region → ℕ → Bool
 lies_within canton regions.Canton m = true
 lies_within canton (regions.Constituency d) m = constituency_of canton m == d
 
--- whether it is, and something is held there for group g; a withdrawal counts too
+-- whether a municipality is in this region and something is held there for group g; a withdrawal counts too
 abbrev pub is_held : Tally → Region → ℕ → ℕ → Bool
 is_held tally region g m = lies_within tally.canton region m && is_some (held tally m g)
 
--- whether it is, and the list of group g stands there
+-- whether a municipality is in this region and the list of group g stands there
 abbrev pub is_due : Canton → Region → ℕ → ℕ → Bool
 is_due canton region g m = lies_within canton region m && stands canton (constituency_of canton m) g
 

@@ -58,8 +58,8 @@ votes_of_group tally taking g = record_text
 abbrev pub votes_of_groups : Tally → List Bool → List ℕ
 votes_of_groups tally taking = each_to (length tally.canton.groups) (votes_of_group tally taking)
 
--- the rows, without the names of the columns. A list reaches the quorum of its constituency or does not. A group takes part if one of its
--- lists reaches it, or if the group reaches the quorum of the whole canton.
+-- the rows, without the names of the columns. A list says whether it reaches the quorum of its constituency. A group says whether it would
+-- take part: one of its lists reaches that quorum, or the group reaches that of the whole canton, if there is one.
 abbrev pub AreVotesOf : Tally → VotesOf → List ℕ → Type 0
 AreVotesOf tally Lists rows =
     (reaches : ℕ → ℕ → Bool) × TellQuorums (totals_of tally) reaches × (rows ≡ votes_of_lists tally reaches)

@@ -8,7 +8,7 @@ use zh_districts::Setup;
 use zh_sheet_text::{CellText, number_cell, text_cell};
 use zh_totals::Totals;
 
-/// A column of the line of a group or a constituency.
+/// A column of a table for people that has a line for each group or constituency.
 #[derive(Clone, Copy)]
 pub(crate) enum Field {
     Name,
@@ -39,7 +39,7 @@ pub(crate) fn heading_cell(field: Field) -> CellText
     })
 }
 
-/// The cell of a column in the line for all. It is empty for columns without a sum.
+/// The cell of a column in the line `total`. It is empty except for the name, the votes and the seats.
 pub(crate) fn total_cell(totals: &Totals, field: Field) -> CellText
     ensures { result.items ≡ field_of_all totals.now field }
 {

@@ -1,4 +1,4 @@
-//! Tables of what a count gives, as comma-separated text: the votes so far, and the groups and constituencies of a sheet.
+//! The votes so far, and the groups and constituencies of a sheet: as comma-separated text and as tables for people.
 #![tactic(auto)]
 
 mod fields;

@@ -161,14 +161,15 @@ fn constituency_cell(sheet: &Sheet<'_>, line: TablePlace, field: Field) -> CellT
     }
 }
 
-/// The groups of a sheet as a table for people, below the title: a line for each group and one for all.
+/// The groups of a sheet as a table for people, below the title: a line for each group and a line `total`.
 pub fn group_table(alloc: Global, sheet: &Sheet<'_>, mark: Mark) -> Result<Vec<u8>, AllocError>
     ensures { IfOk result (λ text. text.items ≡ group_table_text sheet.now mark) }
 {
     marked_table(alloc, &SheetGroups { sheet, mark }, mark)
 }
 
-/// The constituencies of a sheet as a table for people, below the title: a line for each constituency and one for all.
+/// The constituencies of a sheet as a table for people, below the title: a line for each constituency and a line
+/// `total`.
 pub fn constituency_table(
     alloc: Global,
     sheet: &Sheet<'_>,

@@ -172,7 +172,8 @@ pub fn write_groups<W: Write + Drop>(
     write_table(&columns, &SheetGroups { sheet, mark }, writer)
 }
 
-/// The same for the constituencies of a sheet.
+/// Writes the constituencies of a sheet with their mark, in the same way: a record with the names of the columns, then
+/// one for each constituency. Returns the writer. On an error, a prefix of the text might have been written.
 pub fn write_constituencies<W: Write + Drop>(
     sheet: &Sheet<'_>,
     mark: Mark,

@@ -168,7 +168,7 @@ fn vote_cell(
     }
 }
 
-/// Appends the title: the line above the votes so far.
+/// Appends the title, for example `votes so far, 9 commands`.
 fn push_votes_title(out: &mut Vec<u8>, accepted: u64) -> Result<(), AllocError>
     ensures { OnOk result (out.new.items ≡ out.old.items ++ votes_title accepted) }
 {
@@ -190,7 +190,7 @@ fn titled<T: TableCells>(alloc: Global, accepted: u64, cells: &T) -> Result<Vec<
 }
 
 /// The votes so far as a table for people, from a count and its totals. For the lists it has a line for each
-/// constituency and a column for each group; for the groups it has a line for each.
+/// constituency and a column for each group, with totals; for the groups it has a line for each and a line `total`.
 pub fn votes_table(
     alloc: Global,
     count: &Count<'_>,

@@ -19,7 +19,7 @@ use zh_returns::Count;
 use zh_sheet_text::yes_or_no;
 use zh_totals::Totals;
 
-/// What the rows of the votes so far are.
+/// What each row of the votes so far is about.
 #[derive(Clone, Copy, Debug, PartialEq, Eq)]
 pub enum VotesOf {
     /// The lists that stand.
@@ -203,8 +203,8 @@ fn write_group<W: Write + Drop>(
 }
 
 /// Writes the votes so far, from a count and its totals: a record with the names of the columns, then one for each list
-/// that stands, or for each group, in order. Returns the writer. On an error, a prefix of the text might have been
-/// written.
+/// that stands, by constituency and group, or for each group. Returns the writer. On an error, a prefix of the text
+/// might have been written.
 pub fn write_votes<W: Write + Drop>(
     alloc: Global,
     count: &Count<'_>,

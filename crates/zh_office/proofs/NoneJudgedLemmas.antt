@@ -1,4 +1,4 @@
--- Lemmas for the crates above.
+-- A text of which no record was judged.
 use Rattle.std.proofs.Common.{List, ℕ, [], Option, refl, inl, arith}
 use Rattle.csv.specs.Reading.{Reached, strip_bom}
 use Rattle.csv.specs.declared.parser.State.TheVariants as states

@@ -44,7 +44,7 @@ abbrev pub shown_desk : Option Entry → Reply
 shown_desk None = Nothing
 shown_desk (Some entry) = LastDesk entry.origin.desk
 
--- a list without a place is refused; otherwise this reply is given
+-- if the municipality does not exist, or the list does not stand there, this is refused; otherwise this reply is given
 abbrev pub reply_by_place : Option Misplaced → Reply → Reply
 reply_by_place (Some place) reply = Refused (refusals.Judged (reason_of place))
 reply_by_place None reply = reply
@@ -67,7 +67,7 @@ abbrev pub answer_to_drop : Option (List Row) → Reply
 answer_to_drop None = Refused refusals.NoBatch
 answer_to_drop (Some rows) = Dropped (length rows)
 
--- the answers by whether a batch of `count` rows refuses the row: if it does not, the row is held or memory is refused
+-- the answers to a row, by why a batch of `count` rows refuses it, if it does; if it does not, the row is held or memory is refused
 abbrev pub MayHold : Option RowFault → ℕ → Reply → Type 0
 MayHold (Some fault) count reply = reply ≡ Refused (refusals.Row fault)
 MayHold None count reply = (reply ≡ Held (count + 1)) ⊎ (reply ≡ Refused refusals.Memory)

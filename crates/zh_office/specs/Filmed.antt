@@ -69,7 +69,7 @@ pub record WritesAnswer (old : Session) (bytes : List ℕ) (result : Result (Uni
   pub shown : OnOk result (FilmsSteps old (step_of bytes answer new.office ∷ []) new)
   pub broken : OnErr result (FilmsFrontSteps old (step_of bytes answer new.office ∷ []) new)
 
--- the block, after the held bytes of a line, ended `count` lines; they are answered, and `line'` is held of the line after them
+-- the block, after the bytes of a line that were kept, ends `count` lines; these are answered, and `line'` is kept of the line after them
 pub record TakesBlock (old : Session) (line block : List ℕ) (new : Session) (line' : List ℕ) (count : ℕ) : Type 0 where
   pub films : FilmsAll (ended_lines (line ++ block)) old new
   pub left : line' ≡ truncated (unfinished (line ++ block))

@@ -57,7 +57,7 @@ pub record IsBrokenOff (tally : Tally) (IsText : List ℕ → Type 0) (writer wr
   pub written : WritesUpTo left writer writer' (finding_lines (begun tally records))
       ⊎ (AreAllOf IsText records × WritesUpTo left writer writer' (judgement_text tally records))
 
--- what judging a text with this property has written, by the result
+-- what has been written when the judging of a text with this property ends with this result
 abbrev pub Judges : Tally → (List ℕ → Type 0) → Option (List ℕ) → Option (List ℕ) → Result Forecast JudgementFault → Type 0
 Judges tally IsText writer writer' (Ok forecast) = IsJudged tally IsText writer writer' forecast
 Judges tally IsText writer writer' (Err fault) = IsBrokenOff tally IsText writer writer' (bytes_left fault) (records_judged fault)

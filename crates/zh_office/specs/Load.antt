@@ -17,7 +17,7 @@ use Rattle.zh_office.specs.declared.answer.Answer.TheVariants as answers
 use Rattle.zh_office.specs.Office.{Office}
 use Rattle.zh_office.specs.Runs.{its_ledger}
 
--- the refusal of a text for this fault; a reader that fails is reported as `csv`
+-- the refusal of a text, or of a desk's row, for this fault; a failed read is reported as `csv`
 abbrev pub load_refusal : LoadFault → Refusal
 load_refusal faults.Csv = refusals.Csv
 load_refusal faults.Syntax = refusals.Syntax

@@ -1,4 +1,4 @@
--- The part of a reader's bytes that was served.
+-- What has been read, answered and written when serving ends, by how it ends.
 use Rattle.std.specs.Prelude.{◌≡◌, ◌<◌, ◌≤◌, ◌⊎◌, ◌+◌, ◌-◌, ◌*◌, ◌^◌, ℕ, List, [], ◌∷◌, ◌++◌, take, min, length, IsTrue, Option, Some}
 use Rattle.std.specs.Prelude.{codes}
 use Rattle.std.specs.Io.KnownBytes.{Appends, Consumes, IsAtEnd}
@@ -14,7 +14,7 @@ use Rattle.zh_office.specs.Runs.{Runs, Turn, its_ledger, text_after}
 use Rattle.zh_office.specs.declared.service.ServeFault.{ServeFault}
 use Rattle.zh_office.specs.declared.service.ServeFault.TheVariants as faults
 
--- why serving ended before the end of the input, as reports spell it
+-- the fault that ended serving, as reports spell it
 abbrev pub serving_name : ServeFault → List ℕ
 serving_name faults.Read = codes "read"
 serving_name faults.Write = codes "write"
@@ -34,7 +34,7 @@ session written office history left film = record { written = written; office = 
 abbrev pub frame_at : Session → Frame
 frame_at s = now_at s.left s.written s.office.history.trail
 
--- the film's last note is of a failed read
+-- the latest frame of the film is of a failed read
 abbrev pub HasFailedRead : List Frame → Type 0
 HasFailedRead [] = ⊥
 HasFailedRead (f ∷ fs) = f.kind ≡ Failed
@@ -112,7 +112,7 @@ steps_broken lines old new breaks =
 abbrev pub AreDue : Option (List ℕ) → List ℕ → List (List ℕ) → Type 0
 AreDue reader' input lines = (lines ≡ ended_lines input) ⊎ (IsAtEnd reader' × (lines ≡ lines_of input))
 
--- the writer failed: a prefix of the answers is written, and the line in progress has had its effect
+-- the writer failed: a proper prefix of the answers is written, and the line whose answer is incomplete has had its effect
 pub record ServesFront (old new : Session) : Type 0 where
   pub input : List ℕ
   pub lines : List (List ℕ)

@@ -23,16 +23,16 @@ abbrev pub sheet_refusal : SheetFault → Refusal
 sheet_refusal faults.Memory = refusals.Memory
 sheet_refusal (faults.Refused refusal) = refusals.Sheet refusal
 
--- the answer with this sheet, or with the reason why there is none
+-- the answer with this sheet, or with the fault in making it
 abbrev pub answer_with : Bool → Result Distribution SheetFault → Answer
 answer_with is_final (Ok sheet) = answers.Sheet sheet is_final
 answer_with is_final (Err fault) = answers.Reply (Refused (sheet_refusal fault))
 
--- the totals are answered with their sheet, or with the reason why they have none
+-- the answer for these totals: their sheet, or the fault in making it
 abbrev pub MayGiveFor : VoteTotals → Bool → Answer → Type 0
 MayGiveFor totals is_final answer = (made : Result Distribution SheetFault) × IsMade totals made × (answer ≡ answer_with is_final made)
 
--- a count is answered as its totals are
+-- the answer for a count is that for its totals
 abbrev pub MayGive : Tally → Bool → Answer → Type 0
 MayGive tally is_final answer = MayGiveFor (totals_of tally) is_final answer
 
@@ -68,7 +68,7 @@ abbrev pub sheet_answer : Bool → Result Distribution NotGiven → Answer
 sheet_answer is_final (Ok sheet) = answers.Sheet sheet is_final
 sheet_answer is_final (Err why) = answers.Reply (Refused (refusal_of why))
 
--- if the totals have no sheet, everything found about the reason is true
+-- if no sheet was made of the totals, everything that was found out about it is true
 abbrev pub IsWhy : Tally → NotGiven → Type 0
 IsWhy tally (NotClosed m) = Unit {0}
 IsWhy tally (NoSheet none) = HaveNoSheet (totals_of tally) none

@@ -27,7 +27,7 @@ abbrev pub is_memory : Answer → Bool
 is_memory (answers.Reply (Refused refusals.Memory)) = true
 is_memory answer = false
 
--- the lines that can get that reply: `row`, `sheet` and `final`
+-- the lines that can be answered `memory`: `row`, `sheet` and `final`
 abbrev pub RequestTakesMemory : Request → Type 0
 RequestTakesMemory (requests.Batch (steps.Row row)) = Unit {0}
 RequestTakesMemory (requests.Query queries.Sheet) = Unit {0}
@@ -38,7 +38,7 @@ abbrev pub TakesMemory : Result Line LineFault → Type 0
 TakesMemory (Ok line) = RequestTakesMemory line.request
 TakesMemory (Err fault) = ⊥
 
--- the answer to bytes that read like this is not `device`, `reopen-disk` or `spent`, and it is `memory` only for such a line
+-- the answer to bytes that read like this is not `device`, `reopen-disk` or `spent`, and it is `memory` only for one of these lines
 pub record IsUndisturbed (reading : Result Line LineFault) (answer : Answer) : Type 0 where
   pub calm : is_disturbed answer ≡ false
   pub memory : is_memory answer ≡ true → TakesMemory reading

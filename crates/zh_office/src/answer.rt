@@ -25,7 +25,7 @@ use zh_sheet::Sheet;
 pub enum Answer<'s> {
     /// A reply of one line.
     Reply(Reply),
-    /// A sheet, and whether it is final. It is final once every municipality is closed.
+    /// A sheet, and whether it is final. Only the line `final` gives a final one, and only if every municipality is closed.
     Sheet(Sheet<'s>, bool),
 }
 
@@ -54,7 +54,7 @@ fn submit<D: Disk>(ledger: &mut Ledger<'_>, disk: &mut D, command: &Command<'_>)
 }
 
 /// Submits these rows, at least one, as a single command of this desk and reports its outcome. Desk 0 means that no desk
-/// sent the rows.
+/// sent the rows. `bytes` is room for them.
 pub(crate) fn submit_rows<D: Disk>(
     ledger: &mut Ledger<'_>,
     disk: &mut D,
@@ -73,7 +73,8 @@ pub(crate) fn submit_rows<D: Disk>(
     submit(ledger, disk, &Command::Batch { desk, rows })
 }
 
-/// Submits a desk's batch as one command. The batch ends if it is stored or if the count already holds it.
+/// Submits a desk's batch as one command. The batch ends if it is stored, if the count already holds its rows, or if it
+/// has none.
 fn commit<D: Disk>(
     ledger: &mut Ledger<'_>,
     disk: &mut D,

@@ -79,7 +79,7 @@ impl Desks {
         Reply::Held(0)
     }
 
-    /// Adds a row to a desk's batch.
+    /// Adds a row to a desk's batch, or says why it is refused.
     fn hold(&mut self, count: &Count<'_>, desk: Desk, row: Row) -> Reply
         requires row { IsRow row }
         ensures answer { MayAnswerRow count.now (rows_of self.old desk) row result }

@@ -61,7 +61,7 @@ pub(crate) fn by_verdict(verdict: Verdict) -> Judgement
 /// Why the judging of a text stopped before its end.
 #[derive(Clone, Copy, Debug, PartialEq, Eq)]
 pub enum JudgementFault {
-    /// Memory ran out.
+    /// An allocation was refused, or the crate `csv` reports an error although no read failed.
     Memory,
     /// The reader failed.
     Read,

@@ -205,7 +205,7 @@ fn write_forecast<W: Write>(
     Ok(forecast)
 }
 
-/// Judges a text without records.
+/// Judges a text without records, as if it had one without fields.
 fn judge_none<W: Write>(alloc: Global, out: &mut W) -> Result<Forecast, JudgementFault>
     ensures { (tally : Tally) → MatchResult result
         (λ forecast. Appends (W.contents out.old) (W.contents out.new) (judgement_text tally [])
@@ -249,8 +249,9 @@ fn judge_records<R: Read + Drop, W: Write>(
     judge_all(alloc, count, &mut reader, &mut record, out)
 }
 
-/// Judges the records of a text against this count as a loading would. Writes a line for each record that would be refused,
-/// and then the forecast. It holds one record at a time, and at most 1,000 rows that no later record may repeat.
+/// Judges each record of a text against this count as `load` would. Writes a line for each record that would be refused,
+/// and then the forecast. It keeps one record at a time in memory, and up to 1,000 rows. A later record with the
+/// municipality and the list of one of these rows is refused.
 pub fn write_judgement<R: Read, W: Write>(
     alloc: Global,
     count: &Count<'_>,
@@ -262,7 +263,7 @@ pub fn write_judgement<R: Read, W: Write>(
     ensures read { IsErrOf result JudgementFault.Read → has_failed text.new ≡ true }
 {
     match judge_records(alloc, count, &mut *text, out) {
-        // A failed read is noted. This one is not, so the error was refused memory.
+        // The contract of `csv` does not say that a read failed. If none did, the error is reported as refused memory.
         Err(JudgementFault::Read) if !text.has_failed() => Err(JudgementFault::Memory),
         judged => judged,
     }

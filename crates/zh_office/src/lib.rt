@@ -1,5 +1,4 @@
-//! The count office: it cuts what it reads into lines, and answers each; it loads, exports, and says what a loading would
-//! do.
+//! The count office: it cuts its input into lines and answers each, loads and exports returns, and forecasts a loading.
 #![tactic(auto)]
 
 mod answer;

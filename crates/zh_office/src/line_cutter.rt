@@ -20,7 +20,7 @@ pub(crate) fn extend_line(line: &mut PartialLine, more: &[u8])
     line.try_extend_from_slice(&more[..count]).unwrap();
 }
 
-/// The bytes before the first LF and the bytes after it.
+/// The bytes before the first LF and the bytes after it, or `None` if there is none.
 pub(crate) fn split_line(bytes: &[u8]) -> Option<(&[u8], &[u8])>
     ensures { MatchOption result (HasNoEnd bytes.now)
         (λ parts. HasNoEnd parts.0.now × (bytes.now ≡ parts.0.now ++ 10 ∷ parts.1.now)) }

@@ -40,7 +40,7 @@ impl<'s> Office<'s> {
     /// The text is read record by record, only up to the record that decides, apart from what the crate `csv` reads ahead.
     /// After a fault of the device nothing is read.
     pub fn load<R: Read, D: Disk>(&mut self, disk: &mut D, reader: &mut NotedReader<R>) -> Reply
-        // While the disk is honest, the turn also says what each image holds at each moment since the call began.
+        // If the disk is honest, the turn also says what a stop can leave on it, at each moment since the call began.
         ensures turn { LoadTurn (on_disk self.old (D.history disk.old))
             (R.remaining (inner_reader reader.old)) (has_failed reader.new) result
             (on_disk self.new (D.history disk.new)) }

@@ -27,7 +27,7 @@ impl<'s> Office<'s> {
         }
     }
 
-    /// Answers with a sheet, or with the reason why there is none.
+    /// Answers with a sheet, or with the refusal if none is given.
     fn answer_with_sheet(&self, is_final: bool) -> Answer<'s>
         ensures { MayAnswerSheet self.now.ledger.tally is_final result }
     {
@@ -37,7 +37,7 @@ impl<'s> Office<'s> {
         }
     }
 
-    /// The sheet of the current count, or why there is none. The final sheet is given only if every municipality is closed.
+    /// The sheet of the current count, or why none is given. The final sheet is given only if every municipality is closed.
     pub fn sheet(&self, is_final: bool) -> Result<Sheet<'s>, NotGiven>
         ensures answer { MayAnswerSheet self.now.ledger.tally is_final (sheet_answer is_final result) }
         ensures why { IfErr result (IsWhy self.now.ledger.tally) }
@@ -62,7 +62,7 @@ impl<'s> Office<'s> {
 pub enum NotGiven {
     /// The final sheet waits for this municipality, the lowest-numbered open one.
     NotClosed(u32),
-    /// These votes have no sheet.
+    /// No sheet was made of these votes, for this reason.
     NoSheet(NoSheet),
 }
 
@@ -120,7 +120,7 @@ fn shown(entry: Option<Entry>) -> Reply
     }
 }
 
-/// The answer to `show`: what the count holds of a list in a municipality.
+/// The answer to `show`: what the count holds for a list in a municipality.
 fn answer_to_show(count: &Count<'_>, municipality: u32, list: u32) -> Reply
     ensures { result ≡ answer_to_show count.now municipality list }
 {
@@ -130,7 +130,7 @@ fn answer_to_show(count: &Count<'_>, municipality: u32, list: u32) -> Reply
     }
 }
 
-/// The desk that set what is held of a list in a municipality.
+/// The answer to `last`: the desk that set what the count holds for a list in a municipality.
 fn answer_to_last(count: &Count<'_>, municipality: u32, list: u32) -> Reply
     ensures { result ≡ answer_to_last count.now municipality list }
 {

@@ -25,7 +25,7 @@ use zh_text::{WriteFault, put};
 /// The most bytes that a read asks for.
 const BLOCK: usize = 8192;
 
-/// Why serving ended before the end of the input.
+/// The fault that ended serving.
 #[derive(Clone, Copy, Debug, PartialEq, Eq, Error)]
 #[error("{}", self.name())]
 pub enum ServeFault {
@@ -33,7 +33,7 @@ pub enum ServeFault {
     Read,
     /// The writer failed or took no byte.
     Write,
-    /// All allowed reads were made before the input ended.
+    /// All allowed reads were made, and none of them met the end of the input.
     Turns,
 }
 
@@ -107,7 +107,7 @@ impl<'s> Office<'s> {
     }
 
     /// Answers the lines that end in a block, the first of which begins with `line`, and keeps the bytes of the line after
-    /// them.
+    /// them in `line`. Returns how many lines it answered.
     fn take_block<R: Read, W: Write, D: Disk>(
         &mut self,
         line: &mut PartialLine,
@@ -145,7 +145,7 @@ impl<'s> Office<'s> {
         Ok(count)
     }
 
-    /// Answers the last line, which has not ended, if it has a byte. Returns how many lines that is.
+    /// Answers the last line, which has not ended, if it has a byte. Returns how many lines it answered, 0 or 1.
     fn finish<R: Read, W: Write, D: Disk>(
         &mut self,
         line: &PartialLine,
@@ -176,9 +176,9 @@ impl<'s> Office<'s> {
     /// Answers the lines of a reader until its end, in at most `turns` reads of up to 8,192 bytes. Returns the number of
     /// lines.
     ///
-    /// If the reader fails, or the reads are used up before the end of the input, the lines that had ended by then are
-    /// answered, and a line that had not ended is not. If the writer fails, a prefix of the answers is written. An
-    /// interrupted read or write is an error.
+    /// If the reader fails, or the reads are used up before one meets the end of the input, the lines that had ended by
+    /// then are answered, and a line that had not ended is not. If the writer fails, a proper prefix of the answers is
+    /// written. An interrupted read or write is an error.
     ///
     /// The film, which must be empty, notes the order of these events: the disk has carried out a line before its answer is
     /// written, and a line is answered before the next one is carried out and before more is read.
@@ -211,7 +211,7 @@ impl<'s> Office<'s> {
             (R.remaining reader.old) (frames R.Read W.Write D.Disk film.old))
             (session (W.contents writer.new) self.new (D.history disk.new)
             (R.remaining reader.new) (frames R.Read W.Write D.Disk film.new)) }
-        // The film's last note is of a failed read exactly if serving ends with that fault.
+        // The latest frame of the film is of a failed read exactly if serving ends with that fault.
         ensures failed { HasFailedRead (frames R.Read W.Write D.Disk film.new) ↔ IsErrOf result ServeFault.Read }
         // However serving ends, the history of the disk continues from the one before, and its count of failures does not
         // fall.

@@ -1,4 +1,4 @@
--- The answer if both texts were read.
+-- The answer if the set-up and the export were read.
 use Rattle.std.proofs.Common.{ℕ, List}
 use Rattle.zh_verdicts.specs.Checks.{Inputs}
 use Rattle.zh_page.specs.Answers.{AreTextsOf, IsVerdictOn, AnswersPage, Texts}

@@ -30,26 +30,26 @@ AddsUpIfGiven canton (Some text) (Ok (Some sums)) = AddsUp canton text (Ok sums)
 AddsUpIfGiven canton (Some text) (Ok None) = ⊥
 AddsUpIfGiven canton (Some text) (Err why) = AddsUp canton text (Err why)
 
--- these texts are read as these inputs of a check; of the sheet as many bytes are read as the program reads
+-- these texts are read as these inputs of a check; like the program, it reads at most 280,065 bytes of the sheet
 pub record AreTextsOf (texts : Texts) (inputs : Inputs) : Type 0 where
   pub setup : reading_of texts.setup ≡ Ok inputs.canton
   pub sheet : inputs.sheet ≡ take 280065 texts.sheet
   pub held : AddsUpIfGiven inputs.canton texts.held (Ok inputs.held)
 
--- the text is the verdict on the sheet: right, if and only if it is right, or wrong
+-- the text is the verdict on the sheet, and the status says whether the sheet is right; or memory was refused, and the text is empty
 abbrev pub IsVerdictOn : Inputs → PageStatus → List ℕ → Type 0
 IsVerdictOn inputs Right text = IsVerdict inputs true text
 IsVerdictOn inputs Wrong text = IsVerdict inputs false text
 IsVerdictOn inputs Memory text = text ≡ []
 IsVerdictOn inputs status text = ⊥
 
--- the text is the report for the fault of a set-up
+-- the text is the report for the fault of a set-up; or memory was refused, and the text is empty
 abbrev pub IsNoSetup : SetupRefusal → PageStatus → List ℕ → Type 0
 IsNoSetup refusal NoSetup text = (refusal.fault ≢ of_setup.Memory) × (text ≡ setup_report refusal)
 IsNoSetup refusal Memory text = text ≡ []
 IsNoSetup refusal status text = ⊥
 
--- the text is the report for the fault of an export
+-- the text is the report for the fault of an export; or memory was refused, and the text is empty
 abbrev pub AreNoRows : LoadFault → PageStatus → List ℕ → Type 0
 AreNoRows why NoRows text = (fault : HeldFault) × (named why ≡ Some fault) × (text ≡ rows_report fault)
 AreNoRows why Memory text = text ≡ []

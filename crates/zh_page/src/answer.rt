@@ -38,7 +38,7 @@ pub enum HandedStatus {
     NoRoom,
 }
 
-/// Checks a sheet like [`check_texts`] and copies the text of the answer to the front of `room`. `count` gets the
+/// Checks a sheet as [`check_texts`] does and copies the text of the answer to the front of `room`. `count` gets the
 /// length of the text, even if the room is too small.
 pub fn hand_over(
     alloc: Global,

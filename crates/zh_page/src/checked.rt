@@ -11,7 +11,7 @@ use zh_districts::Setup;
 use zh_setups::{SetupFault, SetupRefusal, read_setup};
 use zh_verdicts::{SHEET_FRONT, SpelledVerdict, rows_report, setup_report, spelled_verdict};
 
-/// The part of a sheet's text that is read.
+/// The first 280,065 bytes of a sheet's text, which are read, or all if there are fewer.
 fn front_of(sheet: &[u8]) -> &[u8]
     ensures { result.now ≡ take 280065 sheet.now }
 {

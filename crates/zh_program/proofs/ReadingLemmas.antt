@@ -1,4 +1,4 @@
--- What a reading has done, by its result.
+-- What a task that only reads a count has done, by its result.
 use Rattle.std.proofs.Common.{◌≡◌, Result, Ok, Err, IfErr, refl}
 use Rattle.zh_disk.specs.History.{History}
 use Rattle.zh_districts.specs.Canton.{Canton}

@@ -22,7 +22,7 @@ use Rattle.zh_program.specs.declared.place.TaskFile.TheVariants as files
 use Rattle.zh_program.specs.declared.fault.TaskFault.{TaskFault}
 use Rattle.zh_program.specs.declared.fault.TaskFault.TheVariants as faults
 
--- These are the first 280,065 bytes of a sheet's file, one more than the longest sheet has, if its bytes are known.
+-- These are the first 280,065 bytes of a sheet's file, more than any sheet has, if its bytes are known.
 abbrev pub IsSheetAt : Option (List ℕ) → List ℕ → Type 0
 IsSheetAt None front = Unit {0}
 IsSheetAt (Some text) front = front ≡ take 280065 text
@@ -78,8 +78,8 @@ module _ {F T D R : Type 0} where
       ReadsThen (ReadsHeld files canton (option_map (λ path. path.now) paths.held)) (λ held.
       ReadsNoMore (record { canton = canton; sheet = sheet; held = held }))))
 
--- What a check with this result has written about its inputs: the whole verdict, a part of it if a write failed, or nothing if
--- memory was refused.
+-- What a check has written about its inputs, by its result: the whole verdict, a part of it if a write failed, or nothing if memory
+-- was refused.
 abbrev pub Answers : Type 0 → Option (List ℕ) → Option (List ℕ) → Inputs → Result (Unit {0}) TaskFault → Type 0
 Answers unwritten w w' inputs (Ok done) =
     (right : RightSheet) × ComesTo inputs (Right right) × Appends w w' (check_text inputs (Right right))

@@ -22,7 +22,7 @@ JudgedAs judging.Read e = e ≡ faults.Unreadable files.Csv
 JudgedAs judging.Turns e = e ≡ faults.Serve serving.Turns
 JudgedAs judging.Write e = e ≡ faults.Write
 
--- What a dry run with this result has done, given what judging the text has done.
+-- What a dry run has done, by its result, given what judging the text has done.
 abbrev pub JudgesText : (Result Forecast JudgementFault → Type 0) → Result (Unit {0}) TaskFault → Type 0
 JudgesText Judged (Ok done) =
     (forecast : Forecast) × (forecast.refused ≡ 0) × Judged (Ok forecast)

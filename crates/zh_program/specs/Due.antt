@@ -1,4 +1,4 @@
--- Which exchanges a task is due, and what it writes of them.
+-- Which exchanges a task has, and what it writes of them.
 use Rattle.std.specs.Prelude.{◌≡◌, ◌≢◌, ◌⊎◌, ◌<◌, ℕ, List, [], ◌∷◌, ◌++◌, flat_map, length, map, take, Option, Some, Result}
 use Rattle.std.specs.Io.KnownBytes.{Appends, Consumes, IsAtEnd, Keeps}
 use Rattle.zh_disk.specs.Disk.{Trail}

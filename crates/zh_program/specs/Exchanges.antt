@@ -27,19 +27,19 @@ pub data Given : Type 0 where
   line : List ℕ → Result Line LineFault → Given
   text : Option (List ℕ) → Result (List Row) LoadFault → Given
 
--- The line parses as this; or the text, if its bytes are known, has the header and then these rows, which load as a batch.
+-- The line parses as this; or the text, if its bytes are known, has the column names and then these rows, which load as a batch.
 abbrev pub IsReadRight : Canton → Given → Type 0
 IsReadRight canton (line bytes reading) = ParsesAs bytes reading
 IsReadRight canton (text bytes (Ok rows)) = AreLoaded canton rows × IfSome bytes (λ known. AreAll known (names ∷ map fields rows))
 IsReadRight canton (text bytes (Err fault)) = Unit {0}
 
--- The command that it gives, if any: for a line by what the desks hold, for a text all rows as one batch.
+-- The command that it gives, if any: for a line by the desks' batches, for a text all rows as one batch.
 abbrev pub command_given : Held → Given → Option Command
 command_given held (line bytes (Ok read)) = command_of read.desk (rows_of held read.desk) read.request
 command_given held (text bytes (Ok rows)) = batch_of 0 (Some rows)
 command_given held given = None
 
--- What the desks hold after this answer.
+-- The desks' batches after this answer.
 abbrev pub held_then : Held → Given → Answer → Held
 held_then held (line bytes (Ok read)) answer = held_after held read answer
 held_then held given answer = held
@@ -84,7 +84,7 @@ log_of (x ∷ xs) = followed_by (log_by x.command x.answer) (log_of xs)
 abbrev pub count_by : Tally → Log → Tally
 count_by tally log = after tally (take log.acknowledged log.accepted)
 
--- What the desks hold after these exchanges.
+-- The desks' batches after these exchanges.
 abbrev pub held_by : Held → List Exchange → Held
 held_by = fold (λ held x. held_then held x.given x.answer)
 

@@ -50,18 +50,18 @@ pub record FormatsBlank (canton : Canton) (result : Result (Unit {0}) TaskFault)
   pub in_use : IsErrOf result faults.InUse → IsBlank old.now.bytes → ⊥
   pub unformatted : IsErrOf result faults.Memory → new ≡ opened
 
--- The one or the other, by the flag.
+-- The first of the two if the flag is true, otherwise the second.
 abbrev pub SaysIf : Bool → Type 0 → Type 0 → Type 0
 SaysIf true said unsaid = said
 SaysIf false said unsaid = unsaid
 
--- What is said after a disk was formatted: how many problems keep the set-up from giving seats, or nothing if there are none.
+-- What is said after a disk was formatted: how many problems the set-up has, or nothing if it has none.
 abbrev pub SaysProblems : Canton → (List ℕ → Type 0) → Type 0 → Result (Unit {0}) TaskFault → Type 0
 SaysProblems canton Said unsaid (Ok done) = (problems : SetupProblems) × AreProblems canton problems
     × SaysIf (nat_lt 0 (problem_count problems)) (Said (problems_line (problem_count problems))) unsaid
 SaysProblems canton Said unsaid (Err fault) = unsaid
 
--- A disk is formatted, with a remark on problems. Nothing else in the world changes.
+-- A disk is formatted if it is blank, with a remark on problems. Nothing else in the world changes.
 pub record Formatted (of : Known) (canton : Canton) (before after : WorldOf of × of.Disk)
     (result : Result (Unit {0}) TaskFault) : Type 0 where
   pub rest : after.0 ≡ record before.0 { faults = after.0.faults; remark = after.0.remark }

@@ -44,6 +44,6 @@ abbrev pub Lists : (of : Known) → Table → Canton → WorldOf of → WorldOf 
 Lists of table canton old new result =
     (IsErrAnd result (RefusesList canton table) × (new ≡ old)) ⊎ Shows of (MayList canton table) old new result
 
--- A table of the set-up at this path is written.
+-- A table of the set-up at this path is written, or the set-up or the table has a fault.
 abbrev pub Listed : (of : Known) → List ℕ → Table → WorldOf of → WorldOf of → Result (Unit {0}) TaskFault → Type 0
 Listed of path table = UsesTexts of (ReadsText of.files a_setup path) (Lists of table)

@@ -71,7 +71,7 @@ pub record WritesPart (writer writer' : Option (List ℕ)) (text : List ℕ) : T
   pub part : front < length text
   pub written : Appends writer writer' (take front text)
 
--- What loading this text with this result has done.
+-- What loading this text has done, by its result.
 abbrev pub LoadsText : GivenText → Streams → Streams → (OnDisk Office → OnDisk Office → Type 0)
     → Result (Unit {0}) TaskFault → Type 0
 LoadsText text old new Spans (Ok done) =

@@ -19,8 +19,8 @@ use Rattle.zh_program.specs.Headline.{Headline}
 use Rattle.zh_program.specs.Order.{AnswersBeforeReading, Throughout}
 use Rattle.zh_program.specs.Stopped.{MakesEmpty}
 
--- What the program has done when it ends, that is returns, and hands over this disk and the film of its task. A run that is
--- stopped did a prefix of it.
+-- What the program has done when it returns and hands over this disk and the film of its task. A run that is stopped has done a
+-- prefix of it.
 pub record Promise (of : Known) (arguments : List (List ℕ)) (old new : WorldOf of) (status : ℕ)
     (used : FilmedOf of) : Type 0 where
   pub task : Task

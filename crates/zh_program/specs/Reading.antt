@@ -1,4 +1,4 @@
--- What a task leaves that only reads a count.
+-- What a task that only reads a count leaves.
 use Rattle.std.specs.Prelude.{◌≡◌, Result}
 use Rattle.zh_districts.specs.Canton.{Canton}
 use Rattle.zh_ledger.specs.Submissions.{OnDisk}

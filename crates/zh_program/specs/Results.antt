@@ -19,7 +19,7 @@ use Rattle.zh_sheet_text.specs.declared.mark.MarkedSheet.{MarkedSheet}
 use Rattle.zh_sheet_text.specs.declared.mark.NoSeats.{NoSeats}
 use Rattle.zh_sheet_text.specs.declared.mark.NoSeats.TheVariants.{Refused, Exhausted, Tied, Wrong}
 
--- The answer to the line of a sheet, if there are no seats for this reason.
+-- The answer to a line that asks for a sheet, if there are no seats for this reason.
 abbrev pub refusal_answer : NoSeats → Answer
 refusal_answer (Refused refusal) = answers.Reply (replies.Refused refusal)
 refusal_answer (Exhausted reason) = answers.Reply (replies.Refused (refusals.Sheet sheets.Exhausted))
@@ -30,7 +30,7 @@ abbrev pub answer_of : Result MarkedSheet NoSeats → Answer
 answer_of (Ok seats) = answers.Sheet seats.sheet seats.mark.is_final
 answer_of (Err why) = refusal_answer why
 
--- The reason for a fault, with the seats that the lot decides, if given.
+-- The reason why a fault leaves no seats, with the seats that the lot decides, if given.
 abbrev pub told : SheetFault → Option Lot → NoSeats
 told faults.Memory lot = Refused refusals.Memory
 told (faults.Refused refusal) (Some lot) = Tied refusal lot

@@ -25,7 +25,7 @@ streams left written film = record { left = left; written = written; film = film
 abbrev pub beside : Streams → OnDisk Office → Session
 beside s office = record { written = s.written; office = office; left = s.left; film = s.film }
 
--- All lines of the input were answered. `faulted` says whether the device failed meanwhile.
+-- All lines of the input were answered. `faulted` says whether the device failed while they were.
 abbrev pub ServesWhole : Bool → Session → Session → Type 0
 ServesWhole faulted old new = (count : ℕ) × ServesAll old new count × (new.office.holder.ledger.store.broken ≡ faulted)
 
@@ -36,8 +36,8 @@ pub record Served (old new : Streams) (Spans : OnDisk Office → OnDisk Office �
   pub spans : Spans start end
   pub serving : Serving (beside old start) (beside new end)
 
--- What serving with this result has done: all lines were answered; or the input was not read to its end, and its complete lines
--- are answered; or a write failed, and a prefix of the answers is written.
+-- What serving has done, by its result: all lines were answered; or no read met the end of the input, and the complete lines that
+-- were read are answered; or a write failed, and a proper prefix of the answers is written.
 abbrev pub Serves : Streams → Streams → (OnDisk Office → OnDisk Office → Type 0) → Result (Unit {0}) TaskFault → Type 0
 Serves old new Spans (Ok done) = Served old new Spans (ServesWhole false)
 Serves old new Spans (Err faults.Faulted) = Served old new Spans (ServesWhole true)

@@ -34,7 +34,7 @@ seat_table Constituencies seats = constituency_table_text seats.sheet seats.mark
 abbrev pub laid_out : Layout → MarkedSheet → List ℕ
 laid_out layout seats = if layout.is_table then seat_table layout.of seats else seat_records layout.of seats
 
--- The reason why there are none.
+-- The reason why there are no seats.
 abbrev pub IsShownReason : Canton → NoSeats → Shown → Type 0
 IsShownReason canton why (Nothing text) = text.items ≡ refusal_text canton why
 IsShownReason canton why shown = ⊥

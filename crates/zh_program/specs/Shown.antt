@@ -19,8 +19,8 @@ module _ {I O E F : Type 0} where
   abbrev pub OnlyWrites : World I O E F → World I O E F → Type 0
   OnlyWrites old new = new ≡ record old { output = new.output; faults = new.faults; remark = new.remark }
 
--- What writing it with this result has done: the text is written, and an advice becomes the remark; or only a part of the text
--- is written and nothing else; or there is no text, and the remark says why.
+-- What the writing of what is shown has done, by its result: the text is written, and an advice becomes the remark; or only a part
+-- of the text is written and nothing else; or there is no text, and the remark says why.
 abbrev pub WritesShown : (of : Known) → WorldOf of → WorldOf of → Shown → Result (Unit {0}) TaskFault → Type 0
 WritesShown of old new (Text text) (Ok done) =
     Appends (of.writers.contents old.output) (of.writers.contents new.output) text.items × (new ≡ record old { output = new.output })

@@ -12,7 +12,7 @@ use Rattle.zh_program.specs.Version.{WritesVersion}
 use Rattle.zh_program.specs.World.{EndOf, Known, WorldOf}
 use Rattle.zh_program.specs.declared.on_disk.Work.TheVariants as works
 
--- What a task with this end has done, from a world to a world.
+-- What a task has done, by its end, from one world to another.
 abbrev pub Does : (of : Known) → Task → WorldOf of → WorldOf of → EndOf of → Type 0
 Does of Rehearse old new ended = Rehearses of old new ended
 Does of (Format paths) old new ended = UsesDisk of works.Format paths old new ended

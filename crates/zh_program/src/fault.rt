@@ -17,7 +17,7 @@ use zh_setups::{SetupFault, SetupRefusal};
 use zh_tables::ListFault;
 use zh_text::WriteFault;
 
-/// Why a task was not done, in the order of docs/MANUAL.md.
+/// Why a task was not done (docs/MANUAL.md, "How the program ends").
 #[derive(Clone, Copy)]
 pub enum TaskFault {
     /// A file could not be opened or created, with the cause.

@@ -35,8 +35,8 @@ pub(crate) fn format_blank<D: Disk>(
     }
 }
 
-/// Writes the number of problems that a set-up has to standard error, unless it is zero. If this can't be written, the disk is
-/// formatted all the same.
+/// Writes to standard error how many problems a set-up has, unless it has none. If this can't be written, the disk is formatted
+/// all the same.
 fn say_problems<E: Write>(count: usize, line: &[u8], faults: &mut E, remark: &mut Remark)
     ensures { SaysIf (nat_lt 0 count) (BecameOf remark.new (E.contents faults.old) (E.contents faults.new) line.now)
         ((faults.new ≡ faults.old) × (remark.new ≡ remark.old)) }

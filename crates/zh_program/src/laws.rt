@@ -151,8 +151,7 @@ pub fn kept_commands()
         → IsCanton canton → IsCanton tally.canton → Holds tally first.trail.now.bytes → KeepsAll tally log first.trail last.trail }
 {}
 
-/// A check reads at most one byte more than the longest sheet has. The bytes read are a right sheet exactly if the whole file
-/// is.
+/// A check reads at most 280,065 bytes, more than any sheet has. The bytes read are a right sheet exactly if the whole file is.
 pub fn whole_file_is_checked()
     ensures { (canton : Canton) (held : Option VoteTotals) (text : List ℕ) (right : RightSheet)
         → IsRight canton held (take 280065 text) right ↔ IsRight canton held text right }

@@ -28,7 +28,7 @@ fn advise(alloc: Global, text: Vec<u8>, exceeds: bool) -> Result<Shown, TaskFaul
     Ok(Shown::Advised(text, line))
 }
 
-/// A table of a set-up as text, with advice if it is too long for one load. An error says why there is no table.
+/// A table of a set-up as text, with advice if it has more returns than one load takes. An error says why there is no table.
 fn list_of(alloc: Global, setup: &Setup, table: Table) -> Result<Shown, TaskFault>
     ensures { MatchResult result (MayList setup.now table) (RefusesList setup.now table) }
 {

@@ -129,7 +129,7 @@ impl From<JudgementFault> for TaskFault {
     }
 }
 
-/// Writes what a load of a text would do with an office's count. The fault is `Refused` if the forecast refuses a row.
+/// Writes what a load of a text would do with an office's count. The fault is `Refused` if a record would be refused.
 fn judge_text<R: Read, O: Write>(
     alloc: Global,
     office: &Office<'_>,

@@ -27,7 +27,7 @@ use zh_office::NotedReader;
 /// What a task does with its disk.
 #[derive(Clone, Copy)]
 pub enum Work<'a> {
-    /// Formats it. If there is no file, one is created.
+    /// Formats it, if it is blank. A file that is missing is created first.
     Format,
     /// Answers the lines of the input.
     Run,
@@ -82,7 +82,7 @@ fn begin<F: Files>(
     Ok((setup, disk))
 }
 
-/// Does the work on an open disk. What was read, written and done to the disk is noted in `filmed`.
+/// Does the work on an open disk. Of a run and of a load, what was read, written and done to the disk is noted in `filmed`.
 fn work_on<I: Read, O: Write, E: Write, F: Files>(
     alloc: Global,
     setup: &Setup,
@@ -144,7 +144,7 @@ pub struct Filmed<I, O, D, T> {
 }
 
 impl<I, O, D, T> Filmed<I, O, D, T> {
-    /// A disk that was not used yet.
+    /// This disk, with nothing noted yet.
     pub(crate) fn new(disk: D) -> Filmed<I, O, D, T>
         ensures disk { result.disk ≡ disk }
         ensures film { scenes result.film ≡ [] }

@@ -17,7 +17,7 @@ use zh_verdicts::push_shown;
 /// The most bytes of a path that are shown. Linux accepts no longer path.
 const LONGEST_SHOWN: usize = 4_096;
 
-/// The lines of a report: at most 4,262 bytes.
+/// The lines of a report: at most 4,260 bytes.
 type Report = ArrayVec<u8, 4352>;
 
 /// Appends the name of a fault.

@@ -28,8 +28,8 @@ fn told(fault: SheetFault, lot: Option<Lot>) -> NoSeats
     }
 }
 
-/// The reason why these totals have no sheet: with the seats that the lot decides if seats are tied, and with the reason of an
-/// exhausted search.
+/// The reason why no sheet was made of these totals, with the seats that the lot decides if seats are tied, and with the reason
+/// of an exhausted search. If memory is refused for that, it is the reason.
 fn why_none(alloc: Global, totals: &Totals<'_>, none: NoSheet) -> NoSeats
     requires { HaveNoSheet totals.now none }
     ensures answer { (is_final : Bool) → MayGiveFor totals.now is_final (refusal_answer result) }

@@ -57,7 +57,7 @@ fn read_piece<R: Read>(file: &mut NotedReader<R>, text: &mut Vec<u8>) -> Result<
     }
 }
 
-/// Reads the text of a sheet, up to 280,065 bytes: one more than the longest sheet has.
+/// Reads the text of a sheet, up to 280,065 bytes, which is more than any sheet has.
 fn read_front<R: Read>(alloc: Global, file: &mut NotedReader<R>) -> Result<Vec<u8>, TaskFault>
     requires { has_failed file.old ≡ false }
     ensures read { (bytes : List ℕ) × Consumes (R.remaining (inner_reader file.old)) (R.remaining (inner_reader file.new)) bytes
@@ -76,7 +76,7 @@ fn read_front<R: Read>(alloc: Global, file: &mut NotedReader<R>) -> Result<Vec<u
     Err(TaskFault::Unreadable(TaskFile::Sheet))
 }
 
-/// The front of the sheet at this path.
+/// Reads the text of the sheet at a path, up to 280,065 bytes.
 pub(crate) fn sheet_at<F: Files>(
     alloc: Global,
     files: &mut F,

@@ -29,8 +29,8 @@ pub(crate) enum Shown {
     Nothing(Vec<u8>),
 }
 
-/// Writes what is shown. If the remark can't be written to standard error, the result is the same: the text is done, or the
-/// fault is `Refused`.
+/// Writes what is shown. If the remark can't be written to standard error, the result is the same: the text was written, or
+/// the fault is `Refused`.
 pub(crate) fn write_shown<I: Read, O: Write, E: Write, F: Files>(
     shown: &Shown,
     world: &mut World<I, O, E, F>,

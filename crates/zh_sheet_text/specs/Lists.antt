@@ -37,7 +37,7 @@ list_quotient x d g = option_map (quotient (votes_in x.totals d g) (constituency
 abbrev pub finality : Mark → List ℕ
 finality mark = if mark.is_final then codes "final" else codes "provisional"
 
--- the same, after `stated` if a published sheet says so
+-- `final` or `provisional`, after `stated` if a published sheet says so
 abbrev pub kind_from : Source → Mark → List ℕ
 kind_from Count mark = finality mark
 kind_from Sheet mark = codes "stated " ++ finality mark

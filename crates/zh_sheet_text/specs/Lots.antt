@@ -1,4 +1,4 @@
--- What the lot decides, as text; 10 is LF, 32 is a space. Each line begins with the LF of the one before.
+-- What the lot decides, as text; 10 is LF, 32 is a space. The text of a line begins with the LF that ends the line before it.
 use Rattle.std.specs.Prelude.{ℕ, ◌-◌, ◌&&◌, ◌||◌, Bool, false, nat_le, nat_lt, if◌then◌else◌, List, [], ◌∷◌, ◌++◌, codes, decimal}
 use Rattle.std.specs.Prelude.{length, slice_index, slice_index_or}
 use Rattle.zh_districts.specs.Canton.{Canton}
@@ -20,16 +20,16 @@ constituency_behind canton d = if nat_le 1 d && nat_le d (length canton.constitu
 abbrev pub group_behind : Canton → ℕ → List ℕ
 group_behind canton g = if nat_le 1 g && nat_le g (length canton.groups) then name_of_group canton g else []
 
--- the names of a list, which follow its numbers
+-- a space and the names of a list, which follow its numbers
 abbrev pub list_behind : Canton → ListRange → List ℕ
 list_behind canton x = 32 ∷ constituency_behind canton x.constituency ++ codes ", " ++ group_behind canton x.group
 
--- the line of a constituency that is marked
+-- the line of a constituency, if it is marked: its number and its name
 abbrev pub tied_constituency_line : Canton → List Bool → ℕ → List ℕ
 tied_constituency_line canton marks d =
     if slice_index_or marks (d - 1) false then 10 ∷ decimal d ++ 32 ∷ constituency_behind canton d else []
 
--- the line of a group whose seats differ: its number, the fewest and the most seats, and its name
+-- the line of a group, if its seats differ: its number, the fewest and the most seats, and its name
 abbrev pub range_line : Canton → ℕ → ℕ → ℕ → List ℕ
 range_line canton g least most =
     if nat_lt least most then 10 ∷ decimal g ++ 32 ∷ decimal least ++ 32 ∷ decimal most ++ 32 ∷ group_behind canton g else []
@@ -37,8 +37,8 @@ range_line canton g least most =
 abbrev pub tied_group_line : Canton → SeatRanges → ℕ → List ℕ
 tied_group_line canton x g = range_line canton g (slice_index x.least.items (g - 1)) (slice_index x.most.items (g - 1))
 
--- the line of a list. If its seats differ: constituency, group, fewest and most seats. If it has the same seats in each distribution, and
--- has some: constituency, group, seats. Its names follow.
+-- the line of a list, if it is selected. If its seats differ: constituency, group, fewest and most seats. If they are the same in each
+-- distribution, and at least one: constituency, group, seats. Its names follow.
 abbrev pub tied_list_line : Canton → Listed → ListRange → List ℕ
 tied_list_line canton Differing x =
     if nat_lt x.least x.most

@@ -1,4 +1,4 @@
--- Quotients.
+-- The quotient of a list, which its seats round.
 use Rattle.std.specs.Prelude.{ℕ, ◌*◌, ◌/◌, ◌^◌}
 
 -- the quotient of votes and two divisors, in millionths, rounded down; the divisors are in millionths too

@@ -27,7 +27,7 @@ seats_line d g seats = if nat_lt 0 seats then 10 ∷ decimal d ++ 32 ∷ decimal
 abbrev pub seats_line_of : SeatsOfLists → ℕ → ℕ → List ℕ
 seats_line_of x d place = seats_line d (slice_index x.groups (place - 1)) (cell (length x.groups) x.seats (d - 1) (place - 1))
 
--- the only seats that there are, without a sheet
+-- the only seats that there are, for which no sheet was found: a line for each list that has some
 abbrev pub only_seats_text : SeatsOfLists → List ℕ
 only_seats_text x =
     codes ": no sheet, but these are the only seats"

@@ -8,7 +8,7 @@ use Rattle.zh_sheet_text.specs.Refusals.{reason_text, refusal_line}
 use Rattle.zh_sheet_text.specs.declared.mark.NoSeats.{NoSeats}
 use Rattle.zh_sheet_text.specs.declared.mark.NoSeats.TheVariants.{Refused, Exhausted, Tied, Wrong}
 
--- the line of the refusal; after it the reason of an exhausted search, or what the lot decides
+-- the line of the refusal, and after it the reason of an exhausted search or what the lot decides; or that a sheet is wrong
 abbrev pub refusal_text : Canton → NoSeats → List ℕ
 refusal_text canton (Refused refusal) = refusal_line refusal
 refusal_text canton (Exhausted reason) = refusal_line (refusals.Sheet sheets.Exhausted) ++ reason_text canton reason ++ 10 ∷ []

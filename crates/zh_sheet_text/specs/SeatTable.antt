@@ -12,7 +12,7 @@ use Rattle.zh_sheet_text.specs.declared.mark.Mark.{Mark}
 use Rattle.zh_sheet_text.specs.declared.mark.Source.{Source}
 use Rattle.zh_sheet_text.specs.declared.mark.Source.TheVariants.{Count, Sheet}
 
--- names to the left and above; the seats of each list, constituency and group; a dash for a list that does not stand
+-- names to the left and above; the seats of each list, constituency and group, and of the house; a dash for a list that does not stand
 abbrev pub seat_cell : Distribution → TablePlace → TablePlace → List ℕ
 seat_cell x Head Head = []
 seat_cell x Head (At g) = name_of_group x.totals.canton g

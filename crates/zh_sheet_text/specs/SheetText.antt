@@ -1,4 +1,4 @@
--- The text of a sheet (docs/FORMATS.md, "The sheet"): what stands at each part of its lines.
+-- The text of a sheet (docs/FORMATS.md, "The sheet"): the text of each part of a line, of each line, and of the whole.
 use Rattle.std.specs.Prelude.{ℕ, ◌-◌, Bool, if◌then◌else◌, codes, decimal}
 use Rattle.std.specs.Prelude.{List, [], ◌∷◌, ◌++◌, slice_get, slice_index, flat_map}
 use Rattle.std.specs.Option.{option_map_or}
@@ -20,15 +20,15 @@ use Rattle.zh_sheet_text.specs.declared.line.SheetPart.TheVariants.{GroupName, L
 abbrev pub divisor_text : ℕ → List ℕ
 divisor_text millionths = millionths_text millionths
 
--- names
+-- the name of a constituency or a group, by its number
 abbrev pub constituency_name : Canton → ℕ → List ℕ
 constituency_name canton d = option_map_or (λ c. c.name) (slice_get canton.constituencies (d - 1)) []
 
 abbrev pub group_name : Canton → ℕ → List ℕ
 group_name canton g = option_map_or (λ c. c.name) (slice_get canton.groups (g - 1)) []
 
--- the text of a part: divisors of seats are not reduced; a dash replaces the voter numbers of a group that does not take part, and the
--- divisor of a group without seats
+-- the text of a part: a key is a fraction that is not reduced; a dash replaces the voter sum and the voter numbers of a group that does
+-- not take part, and the divisor of a group without seats
 abbrev pub part_text : Distribution → Head → SheetPart → List ℕ
 part_text x head (Fixed label) = label_text label
 part_text x head (Number n) = decimal n

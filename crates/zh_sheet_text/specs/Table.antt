@@ -1,5 +1,5 @@
--- A table for people: a heading, a line for each thing and a column for each field. A line of it has at most 80 characters. If that is not
--- enough, the fields of each line are below it, a line each.
+-- A table for people (docs/FORMATS.md, "Tables for people"): wide, with a heading and a column for each field, if its lines then have at
+-- most 80 characters; otherwise tall, without a heading and with a line for each field.
 use Rattle.std.specs.Prelude.{ℕ, ◌+◌, ◌-◌, ◌≤◌, ◌==◌, nat_le, nat_lt, ◌||◌, Bool, max, List, [], ◌∷◌, ◌++◌, fold, replicate}
 use Rattle.std.specs.Prelude.{if◌then◌else◌, codes, count_by, sum_by}
 use Rattle.std.specs.List.{range_with_len}
@@ -14,7 +14,7 @@ begins_character byte = nat_lt byte 128 || nat_le 192 byte
 abbrev pub characters : List ℕ → ℕ
 characters text = count_by begins_character text
 
--- a text, aligned left or right in this width; 32 is a space
+-- a text with spaces after or before it, up to this number of characters; a longer text is not cut; 32 is a space
 abbrev pub on_left : ℕ → List ℕ → List ℕ
 on_left width text = text ++ replicate (width - characters text) 32
 
@@ -27,7 +27,7 @@ pub record Grid : Type 0 where
   pub columns : ℕ
   pub cell : ℕ → ℕ → List ℕ
 
--- the place of a line or a column among those of `last` things: the heading, that of one, or that of all
+-- what a line or a column is about, in a table of `last` constituencies or groups: the heading or names, one of these, or all
 abbrev pub table_place : ℕ → ℕ → TablePlace
 table_place last number = if number == 0 then Head else if nat_le number last then At number else Total
 
@@ -60,11 +60,12 @@ wide_line grid line = on_left (widest grid 0) (grid.cell line 0) ++ wide_cells g
 abbrev pub wide_table : Grid → List ℕ
 wide_table grid = wide_line grid 0 ++ each_to grid.lines (wide_line grid)
 
--- the only column of the tall table is as wide as the longest cell of all columns, without the heading, at least three, and two spaces
+-- the width of a field in the tall table: two spaces, and the longest cell of all columns except the first, without the heading, at least
+-- three
 abbrev pub tall_width : Grid → ℕ
 tall_width grid = 2 + fold (λ most column. max most (widest_below grid column)) 3 (range_with_len 1 grid.columns)
 
--- a line of the tall table with its last column, and below it a line for each of the other columns
+-- a field in a line of its own; a line of the tall table with its last field, and below it a line for each other field
 abbrev pub field_line : Grid → ℕ → ℕ → List ℕ
 field_line grid line column =
     codes "  " ++ on_left 40 (grid.cell 0 column) ++ on_right (tall_width grid) (grid.cell line column) ++ 10 ∷ []

@@ -57,7 +57,7 @@ impl LineParts {
         self.is_there
     }
 
-    /// The parts of the line, in order. At most 11.
+    /// The parts of the line, in order.
     pub fn parts(&self) -> &[SheetPart]
         ensures parts { result.now ≡ self.now.parts }
         ensures few { length result.now ≤ MOST_PARTS }
@@ -66,7 +66,7 @@ impl LineParts {
     }
 }
 
-/// A word that introduces what follows it. It is the same in every sheet.
+/// A fixed word of a line, for example `persons`.
 #[derive(Clone, Copy)]
 pub enum Label {
     Sheet,
@@ -86,7 +86,8 @@ pub enum Label {
     End,
 }
 
-/// A part of a line: a label, a number of the set-up, or the name of a value that only a sheet has.
+/// A part of a line: a fixed word, a number of the set-up, or a value that is taken from the sheet or from its `Head`.
+/// Constituencies and groups are given by their numbers, from 1.
 #[derive(Clone, Copy)]
 pub enum SheetPart {
     Fixed(Label),
@@ -201,7 +202,7 @@ fn push_part(text: &mut WriteBuffer, sheet: &Sheet<'_>, head: Head, part: SheetP
     }
 }
 
-/// Appends the parts of a line, with a space between them and a line feed at the end.
+/// Appends each part of a line and the byte after it: a space, or a line feed after the last part.
 pub(crate) fn push_parts(text: &mut WriteBuffer, sheet: &Sheet<'_>, head: Head, parts: &[SheetPart])
     requires there { All (IsPartOf sheet.now.totals.canton) parts.now }
     requires few { length parts.now ≤ MOST_PARTS }

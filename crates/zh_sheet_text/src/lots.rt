@@ -23,13 +23,13 @@ struct ListRange {
 /// Which lists have a line.
 #[derive(Clone, Copy)]
 enum Listed {
-    /// Those in which the distributions differ.
+    /// Those whose seats differ between the distributions.
     Differing,
-    /// Those with the same seats in each distribution.
+    /// Those with the same seats in each distribution, at least one.
     Same,
 }
 
-/// Whether the mark at an index is set. Past the end none is.
+/// Whether the mark at an index is set. Past the end it is not.
 fn is_marked(marks: &[bool], place: usize) -> bool
     ensures { result ≡ slice_index_or marks.now place false }
 {
@@ -65,7 +65,7 @@ fn group_behind(setup: &Setup, group: u32) -> &str
     }
 }
 
-/// Appends the names of a list, which follow its numbers.
+/// Appends a space and the names of a list, which follow its numbers.
 fn push_behind(out: &mut Vec<u8>, setup: &Setup, list: ListRange) -> Result<(), AllocError>
     ensures { OnOk result (out.new.items ≡ out.old.items ++ list_behind setup.now list) }
 {
@@ -138,7 +138,7 @@ fn push_groups(out: &mut Vec<u8>, setup: &Setup, ranges: &SeatRanges) -> Result<
     Ok(())
 }
 
-/// Appends the line of a list, if it has one.
+/// Appends the line of a list, if `listed` selects it.
 fn push_listed(
     out: &mut Vec<u8>,
     setup: &Setup,
@@ -177,7 +177,7 @@ fn range_of(lists: &ListRanges, constituency: u32, place: u32) -> ListRange
     }
 }
 
-/// Appends the lines of the lists of a constituency.
+/// Appends a line for each list of a constituency that `listed` selects, among those of the groups in `lists`.
 fn push_listed_in(
     out: &mut Vec<u8>,
     setup: &Setup,
@@ -196,7 +196,7 @@ fn push_listed_in(
     Ok(())
 }
 
-/// Appends the lines of the lists.
+/// Appends a line for each list that `listed` selects, by constituency, among those of the groups in `lists`.
 fn push_lists(
     out: &mut Vec<u8>,
     setup: &Setup,

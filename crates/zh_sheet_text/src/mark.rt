@@ -1,4 +1,5 @@
-//! How a sheet is marked: final or provisional, after which command, and who says so.
+//! How seats are marked: whether they are final, after how many commands, and where this comes from. And why there are
+//! no seats.
 ghost use Rattle.std.specs.Prelude.{◌≡◌};
 ghost use Rattle.zh_sheet_text.specs.Lists.{kind};
 ghost use Rattle.zh_sheet_text.specs.SeatTable.{whose};
@@ -6,7 +7,7 @@ ghost use Rattle.zh_sheet_text.specs.SeatTable.{whose};
 use zh_commands::Refusal;
 use zh_sheet::{ExhaustedReason, Lot, Sheet, SheetRefusal};
 
-/// Who says what a mark states.
+/// Where a mark comes from.
 #[derive(Clone, Copy, Debug, PartialEq, Eq)]
 pub enum Source {
     /// The count from which the seats are computed.
@@ -16,7 +17,7 @@ pub enum Source {
 }
 
 impl Source {
-    /// What is added to a statement of a published sheet. Empty for the count.
+    /// The text after each statement of a published sheet. It is empty for the count.
     pub(crate) fn whose(self) -> &'static str
         ensures { result.now ≡ whose self }
     {
@@ -27,7 +28,7 @@ impl Source {
     }
 }
 
-/// How seats are marked: whether they are final, how many commands were accepted before, and who says so.
+/// How seats are marked: whether they are final, how many commands were accepted before, and where this comes from.
 #[derive(Clone, Copy, Debug, PartialEq, Eq)]
 pub struct Mark {
     pub is_final: bool,

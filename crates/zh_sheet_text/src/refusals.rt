@@ -108,7 +108,7 @@ fn push_lists(out: &mut Vec<u8>, lists: &ListSeats, constituency: u32) -> Result
     Ok(())
 }
 
-/// Appends the only seats that there are, without a sheet.
+/// Appends `: no sheet, but these are the only seats` and a line for each list that has seats.
 fn push_only_seats(out: &mut Vec<u8>, lists: &ListSeats) -> Result<(), AllocError>
     ensures { OnOk result (out.new.items ≡ out.old.items ++ only_seats_text lists.now) }
 {
@@ -119,7 +119,7 @@ fn push_only_seats(out: &mut Vec<u8>, lists: &ListSeats) -> Result<(), AllocErro
     Ok(())
 }
 
-/// Appends the reason of an exhausted search.
+/// Appends the reason of an exhausted search, without a line feed at its end.
 fn push_reason(out: &mut Vec<u8>, setup: &Setup, reason: &ExhaustedReason) -> Result<(), AllocError>
     ensures { OnOk result (out.new.items ≡ out.old.items ++ reason_text setup.now reason.now) }
 {
@@ -138,8 +138,8 @@ fn push_reason(out: &mut Vec<u8>, setup: &Setup, reason: &ExhaustedReason) -> Re
     }
 }
 
-/// The report of why there are no seats. Its first line is the refusal. After `exhausted` the next lines are the
-/// reason; after a tie they are what the lot decides.
+/// The report of why there are no seats. Its first line is the refusal, or that the sheet is wrong. After `exhausted`
+/// the next lines are the reason; after a tie they are what the lot decides.
 pub fn refusal_text(alloc: Global, setup: &Setup, why: &NoSeats) -> Result<Vec<u8>, AllocError>
     ensures { IfOk result (λ text. text.items ≡ refusal_text setup.now why.now) }
 {

@@ -13,7 +13,7 @@ use std::alloc::{AllocError, Global};
 use zh_sheet::Sheet;
 use zh_text::push_number;
 
-/// The seats of a sheet.
+/// The seats of a sheet as the cells of a table.
 #[derive(Drop)]
 struct Seats<'a, 's> {
     sheet: &'a Sheet<'s>,
@@ -84,7 +84,7 @@ fn list_cell(sheet: &Sheet<'_>, constituency: u32, group: u32) -> CellText
     }
 }
 
-/// Appends the title: how the seats are marked.
+/// Appends the title, for example `provisional, 9 commands`.
 fn push_title(out: &mut Vec<u8>, mark: Mark) -> Result<(), AllocError>
     ensures { OnOk result (out.new.items ≡ out.old.items ++ title mark) }
 {
@@ -98,7 +98,7 @@ fn push_title(out: &mut Vec<u8>, mark: Mark) -> Result<(), AllocError>
     out.extend_from_slice(b"\n")
 }
 
-/// A table of a sheet for people, below its title.
+/// The title and, below it, a table for people.
 pub fn marked_table<T: TableCells>(
     alloc: Global,
     cells: &T,

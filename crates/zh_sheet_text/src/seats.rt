@@ -175,7 +175,7 @@ fn list_quotient(sheet: &Sheet<'_>, constituency: u32, group: u32) -> Option<u12
     Some(quotient(votes, of_constituency, of_group))
 }
 
-/// A number of millionths, with six digits after the dot, or an empty text.
+/// A number of millionths, with six digits after the dot, or an empty text for `None`.
 pub fn millionths_or_nothing(millionths: Option<u128>) -> DecimalText
     ensures { result.items ≡ option_map_or divisor_text millionths [] }
 {
@@ -185,7 +185,7 @@ pub fn millionths_or_nothing(millionths: Option<u128>) -> DecimalText
     }
 }
 
-/// A number, or an empty text.
+/// A number, or an empty text for `None`.
 pub fn number_or_nothing(number: Option<u64>) -> ArrayVec<u8, 20>
     ensures { result.items ≡ option_map_or decimal number [] }
 {

@@ -160,7 +160,7 @@ fn line_below(setup: &Setup, place: u32) -> LineParts
     end_line()
 }
 
-/// The number of lines of a sheet, including those that are not written. At most 1,094.
+/// The number of lines of a sheet, including those that are not written: at most 1,094.
 pub fn line_count(setup: &Setup) -> u32
     ensures count { result ≡ length (sheet_lines setup.now) }
     ensures few { result ≤ 1094 }

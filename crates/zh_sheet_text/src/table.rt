@@ -1,4 +1,5 @@
-//! A table for people, with lines and columns. If it is too wide, the fields of each line are below it, a line each.
+//! A table for people (docs/FORMATS.md, "Tables for people"): wide, with a column for each field, or tall, with a line
+//! for each field, if the lines of the wide one would have more than 80 characters.
 ghost use Rattle.std.specs.Prelude.{◌≡◌, ◌≤◌, ◌+◌, ◌++◌, OnOk, length, decimal, replicate};
 ghost use Rattle.zh_sheet_text.specs.Table.{IsTablePlace, characters, column_width, field_line, grid_text, on_left, on_right, table_place};
 ghost use Rattle.zh_sheet_text.specs.Table.{table_width, tall_lines, tall_table, tall_width, wide_cells, wide_line, wide_table};
@@ -33,18 +34,18 @@ pub fn number_cell(number: u64) -> CellText
     cell
 }
 
-/// The place of a line or a column among those of a number of things.
+/// What a line or a column of a table is about.
 #[derive(Clone, Copy)]
 pub enum TablePlace {
-    /// The heading: before the first of the things.
+    /// The heading, or the column of names.
     Head,
-    /// The line or column of the thing with this number.
+    /// The constituency or group with this number.
     At(u32),
-    /// The line or column of all of them.
+    /// All constituencies or groups.
     Total,
 }
 
-/// The place of line or column `number` among those of `last` things.
+/// What line or column `number` is about in a table of `last` constituencies or groups.
 pub fn table_place(last: u32, number: u32) -> TablePlace
     ensures place { result ≡ table_place last number }
     ensures there { IsTablePlace last result }
@@ -66,7 +67,7 @@ pub trait TableCells {
     /// What must hold for the cells to be read.
     ghost AreCells: { Self → Type 0 };
 
-    /// The lines, columns and cells that clauses know.
+    /// The table in the words of `specs/`.
     ghost grid: { Self → Grid };
 
     /// The number of lines below the heading.
@@ -109,7 +110,7 @@ fn cell_width<T: TableCells>(cells: &T, line: u32, column: u32) -> usize
     characters(&cells.cell(line, column))
 }
 
-/// The number of characters in the longest cell of a column, without the heading, at least three.
+/// The number of characters in the longest cell of a column below the heading, at least three.
 fn widest_below<T: TableCells>(cells: &T, column: u32) -> usize
     requires whole { T.AreCells cells.now }
     requires column { column ≤ (T.grid cells.now).columns }
@@ -221,7 +222,7 @@ fn push_field<T: TableCells>(
     out.extend_from_slice(b"\n")
 }
 
-/// Appends a line of the tall table, and below it those of its fields.
+/// Appends what the tall table has for a line: its name with its last field, and below it a line for each other field.
 fn push_tall_lines<T: TableCells>(out: &mut Vec<u8>, cells: &T, line: u32) -> Result<(), AllocError>
     requires whole { T.AreCells cells.now }
     requires line { line ≤ (T.grid cells.now).lines }
@@ -248,8 +249,7 @@ fn push_tall_table<T: TableCells>(out: &mut Vec<u8>, cells: &T) -> Result<(), Al
     Ok(())
 }
 
-/// Appends a table for people: the wide one if it has at most 80 characters in a line, otherwise the tall one, in which
-/// the fields of each line are below it.
+/// Appends a table for people: the wide one if it has at most 80 characters in a line, otherwise the tall one.
 pub fn push_table<T: TableCells>(out: &mut Vec<u8>, cells: &T) -> Result<(), AllocError>
     requires { T.AreCells cells.now }
     ensures { OnOk result (out.new.items ≡ out.old.items ++ grid_text (T.grid cells.now)) }
@@ -261,7 +261,7 @@ pub fn push_table<T: TableCells>(out: &mut Vec<u8>, cells: &T) -> Result<(), All
     }
 }
 
-/// Appends spaces.
+/// Appends this many spaces.
 fn push_spaces(out: &mut Vec<u8>, count: usize) -> Result<(), AllocError>
     ensures { OnOk result (out.new.items ≡ out.old.items ++ replicate count 32) }
 {
@@ -271,7 +271,7 @@ fn push_spaces(out: &mut Vec<u8>, count: usize) -> Result<(), AllocError>
     Ok(())
 }
 
-/// Appends a text, aligned left in a column.
+/// Appends a text and then spaces, up to this number of characters. A longer text is not cut.
 fn push_left(out: &mut Vec<u8>, width: usize, text: &[u8]) -> Result<(), AllocError>
     ensures { OnOk result (out.new.items ≡ out.old.items ++ on_left width text.now) }
 {
@@ -279,7 +279,7 @@ fn push_left(out: &mut Vec<u8>, width: usize, text: &[u8]) -> Result<(), AllocEr
     push_spaces(out, width.saturating_sub(characters(text)))
 }
 
-/// Appends a text, aligned right in a column.
+/// Appends spaces and then a text, up to this number of characters. A longer text is not cut.
 fn push_right(out: &mut Vec<u8>, width: usize, text: &[u8]) -> Result<(), AllocError>
     ensures { OnOk result (out.new.items ≡ out.old.items ++ on_right width text.now) }
 {

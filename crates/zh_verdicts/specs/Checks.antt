@@ -28,7 +28,7 @@ pub record ComesTo (inputs : Inputs) (verdict : SheetVerdict) : Type 0 where
 abbrev pub check_text : Inputs → SheetVerdict → List ℕ
 check_text inputs verdict = verdict_text (option_map (λ sums. rows_held inputs.canton sums.rows) inputs.held) verdict
 
--- this verdict is that the sheet is wrong
+-- the verdict says that the sheet is wrong: it is not `Right`
 abbrev pub SaysWrong : SheetVerdict → Type 0
 SaysWrong verdict = (right : RightSheet) → verdict ≢ Right right
 

@@ -12,7 +12,7 @@ abbrev pub cut_off : ℕ → Bool → List ℕ
 cut_off thousandths is_exact =
     decimal (thousandths / 1000) ++ codes "." ++ padded 3 (thousandths % 1000) ++ (if is_exact then [] else codes "..")
 
--- the division of votes by two divisors in millionths, and its quotient
+-- the division of votes by two divisors in millionths, and its quotient; or that a divisor is missing
 abbrev pub quotient_text : ℕ → ℕ → ℕ → List ℕ
 quotient_text votes row column =
     let thousandths = votes * 1000000000000000 in
@@ -20,7 +20,7 @@ quotient_text votes row column =
     else (decimal votes ++ codes " / (" ++ divisor_text row ++ codes " x " ++ divisor_text column ++ codes ")" ++ codes " = "
     ++ cut_off (thousandths / (row * column)) (thousandths % (row * column) == 0))
 
--- what the quotient rounds to, if there is one
+-- what the quotient rounds to, or that it lies on a half; nothing if a divisor is missing
 abbrev pub rounding_text : ListQuotient → List ℕ
 rounding_text (RoundsTo seats) = codes " rounds to " ++ decimal seats
 rounding_text OnHalf = codes " lies on a half"

@@ -1,5 +1,5 @@
--- The text of a verdict: the parts that hold, then the wrong line and that the sheet is wrong; or what the check of a right sheet has
--- shown.
+-- The text of a verdict. On a wrong sheet: the parts that are right, if any, then the first wrong line or that no sheet follows, and
+-- `sheet wrong`. On a right sheet: the parts, which are all right, and what the check has shown.
 use Rattle.std.specs.Prelude.{ℕ, Option, codes, List, ◌++◌}
 use Rattle.zh_check.specs.declared.checked.SheetVerdict.{SheetVerdict}
 use Rattle.zh_check.specs.declared.checked.SheetVerdict.TheVariants.{Right, Differs, OffForm, OffList, OffTotal, OtherVotes, NoSheet}
@@ -13,28 +13,28 @@ use Rattle.zh_verdicts.specs.Quotient.{off_text}
 use Rattle.zh_verdicts.specs.Right.{right_verdict}
 use Rattle.zh_verdicts.specs.Wrong.{differs_text, held_text, total_text}
 
--- the first line that is not of its kind
+-- the verdict if a line is not of its kind: the first such line
 abbrev pub off_form_text : WrongLine → List ℕ
 off_form_text wrong = differs_text wrong ++ codes "sheet wrong\n"
 
--- the first list whose votes differ from those held
+-- the verdict if the votes of a list differ from those held: the first such list
 abbrev pub other_votes_text : others.OtherVotes → List ℕ
 other_votes_text other = codes "form ok\n" ++ held_text other ++ codes "sheet wrong\n"
 
--- the first line that differs from the sheet that follows
+-- the verdict if a sheet follows and is different: the first line that differs
 abbrev pub difference_text : Option HeldRows → WrongLine → List ℕ
 difference_text held wrong =
     form_and_votes held ++ parts_above wrong.should.items ++ differs_text wrong ++ codes "sheet wrong\n"
 
--- the first list whose seats do not follow
+-- the verdict if no sheet follows because the seats of a list do not: the first such list
 abbrev pub off_list_text : Option HeldRows → off_lists.OffList → List ℕ
 off_list_text held off = form_and_votes held ++ off_text off ++ codes "sheet wrong\n"
 
--- the first total that is not met
+-- the verdict if no sheet follows because lists do not add up to a total: the first such total
 abbrev pub off_total_text : Option HeldRows → off_totals.OffTotal → List ℕ
 off_total_text held off = form_and_votes held ++ total_text off ++ codes "sheet wrong\n"
 
--- no sheet follows, and no line is known to be wrong
+-- the verdict if no sheet follows for another reason, so that no line is known to be wrong
 abbrev pub no_sheet_text : Option HeldRows → List ℕ
 no_sheet_text held = form_and_votes held ++ codes "no sheet follows from these votes, divisors and seats\nsheet wrong\n"
 

@@ -13,7 +13,7 @@ use Rattle.zh_check.specs.declared.checked.WrongLine.{WrongLine}
 abbrev pub shown_line : List ℕ → List ℕ
 shown_line line = shown_text names.MarkAndReturn line
 
--- a line that was found, or `nothing`
+-- a line that was found, or `nothing` if it is empty
 abbrev pub found_text : List ℕ → List ℕ
 found_text [] = codes "nothing"
 found_text (byte ∷ line) = shown_line (byte ∷ line)
@@ -41,7 +41,7 @@ differs_text wrong =
 abbrev pub sum_text : OffTotal → List ℕ
 sum_text off = wrong_line off.line off.found.items ++ codes ": its lists have " ++ decimal off.seats
 
--- the line of one whose lists do not add up to its seats, and these seats
+-- the line of a constituency or group whose lists do not add up to its seats, the sum, and these seats
 abbrev pub total_text : OffTotal → List ℕ
 total_text off = sum_text off ++ codes " seats, should be: " ++ decimal off.total ++ codes "\n"
 

@@ -12,7 +12,7 @@ use zh_districts::Setup;
 use zh_tables::HeldRows;
 use zh_totals::Totals;
 
-/// The most bytes of a sheet that are read: one more than the longest sheet has, so that a longer text is noticed.
+/// The most bytes of a sheet that are read: one more than `LONGEST_SHEET`, so that a longer text is noticed.
 pub const SHEET_FRONT: usize = 280_065;
 
 /// The sums of an export, if there is one.

@@ -1,4 +1,4 @@
-//! The check of two texts, a sheet and an export, and the text of its verdict.
+//! The check of a sheet, with its votes compared with an export if there is one, and the text of the verdict.
 #![tactic(auto)]
 
 mod check;

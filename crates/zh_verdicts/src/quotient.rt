@@ -46,7 +46,7 @@ fn push_division(
     text.extend_from_slice(b")")
 }
 
-/// Appends this division and its quotient, or `a divisor is missing`.
+/// Appends the division of the votes by both divisors and its quotient, or `a divisor is missing`.
 fn push_quotient(
     text: &mut Vec<u8>,
     votes: u64,
@@ -65,7 +65,7 @@ fn push_quotient(
     push_cut_off(text, thousandths / product, thousandths % product == 0)
 }
 
-/// Appends what a quotient rounds to, if there is a quotient.
+/// Appends what a quotient rounds to, or that it lies on a half. If a divisor is missing, nothing is appended.
 fn push_rounding(text: &mut Vec<u8>, quotient: ListQuotient) -> Result<(), AllocError>
     ensures { OnOk result (text.new.items ≡ text.old.items ++ rounding_text quotient) }
 {

@@ -1,4 +1,4 @@
-//! The text of the parts of a sheet that hold, and of the verdict on a right sheet.
+//! The lines of the parts of a sheet that are right, and the text of the verdict on a right sheet.
 ghost use Rattle.std.specs.Prelude.{◌≡◌, ◌++◌, OnOk, ◌≤◌, IfOk};
 ghost use Rattle.zh_verdicts.specs.Parts.{form_and_votes, parts_above, parts_text, rows_part, votes_line};
 ghost use Rattle.zh_verdicts.specs.Right.{commands_part, desk_part, kind_part, missing_line, right_verdict, unchecked_line, worth_line};
@@ -30,7 +30,7 @@ fn push_votes(text: &mut Vec<u8>, held: Option<HeldRows>) -> Result<(), AllocErr
     text.extend_from_slice(b"\n")
 }
 
-/// Appends that the form and the votes hold.
+/// Appends `form ok` and the line about the votes.
 pub(crate) fn push_form_and_votes(
     text: &mut Vec<u8>,
     held: Option<HeldRows>,
@@ -41,7 +41,7 @@ pub(crate) fn push_form_and_votes(
     push_votes(text, held)
 }
 
-/// Appends the further parts that hold above the first wrong line, given what that line should be.
+/// Appends the lines of the further parts that are right, given what the first line that differs should be.
 pub(crate) fn push_parts_above(text: &mut Vec<u8>, should: &[u8]) -> Result<(), AllocError>
     ensures { OnOk result (text.new.items ≡ text.old.items ++ parts_above should.now) }
 {
@@ -54,7 +54,7 @@ pub(crate) fn push_parts_above(text: &mut Vec<u8>, should: &[u8]) -> Result<(), 
     }
 }
 
-/// Appends that all parts hold.
+/// Appends the lines of all parts, from `form ok` to `lists ok`.
 pub(crate) fn push_parts(text: &mut Vec<u8>, held: Option<HeldRows>) -> Result<(), AllocError>
     ensures { OnOk result (text.new.items ≡ text.old.items ++ parts_text held) }
 {
@@ -62,7 +62,7 @@ pub(crate) fn push_parts(text: &mut Vec<u8>, held: Option<HeldRows>) -> Result<(
     text.extend_from_slice(b"seats ok\nparticipation ok\nvoters ok\ngroups ok\nlists ok\n")
 }
 
-/// Appends whether a sheet is final.
+/// Appends `not checked: final` or `not checked: provisional`.
 fn push_kind(text: &mut Vec<u8>, is_final: bool) -> Result<(), AllocError>
     ensures { OnOk result (text.new.items ≡ text.old.items ++ kind_part is_final) }
 {
@@ -109,7 +109,7 @@ pub fn unchecked_line(alloc: Global, right: &RightSheet<'_>) -> Result<Vec<u8>, 
     Ok(line)
 }
 
-/// Appends that the sheet is right for the rows that are held, and how many returns are missing.
+/// Appends the line `sheet ok for ..`, with the rows that are held and the number of missing returns.
 fn push_missing(text: &mut Vec<u8>, rows: HeldRows) -> Result<(), AllocError>
     requires { rows.held ≤ rows.due }
     ensures { OnOk result (text.new.items ≡ text.old.items ++ missing_line rows) }
@@ -134,7 +134,7 @@ fn push_worth(text: &mut Vec<u8>, held: Option<HeldRows>) -> Result<(), AllocErr
     }
 }
 
-/// Appends the verdict on a right sheet: that all parts hold, what a check can't know, and what it has shown.
+/// Appends the verdict on a right sheet: the lines of all parts, what a check can't know, and what it has shown.
 pub(crate) fn push_right(
     text: &mut Vec<u8>,
     right: &RightSheet<'_>,

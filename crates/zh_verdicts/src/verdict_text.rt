@@ -10,7 +10,7 @@ use std::alloc::{AllocError, Global};
 use zh_check::{OffList, OffTotal, OtherVotes, SheetVerdict, WrongLine};
 use zh_tables::HeldRows;
 
-/// Appends the first line that is not of its kind, and that the sheet is wrong.
+/// Appends the first line that is not of its kind, what it should be, and `sheet wrong`.
 fn push_off_form(text: &mut Vec<u8>, wrong: &WrongLine) -> Result<(), AllocError>
     ensures { OnOk result (text.new.items ≡ text.old.items ++ off_form_text wrong.now) }
 {
@@ -18,7 +18,7 @@ fn push_off_form(text: &mut Vec<u8>, wrong: &WrongLine) -> Result<(), AllocError
     text.extend_from_slice(b"sheet wrong\n")
 }
 
-/// Appends that the form holds, the first list whose votes differ from those held, and that the sheet is wrong.
+/// Appends `form ok`, the line of the first list whose votes differ from those held, these votes, and `sheet wrong`.
 fn push_other_votes(text: &mut Vec<u8>, other: &OtherVotes) -> Result<(), AllocError>
     ensures { OnOk result (text.new.items ≡ text.old.items ++ other_votes_text other.now) }
 {
@@ -27,7 +27,8 @@ fn push_other_votes(text: &mut Vec<u8>, other: &OtherVotes) -> Result<(), AllocE
     text.extend_from_slice(b"sheet wrong\n")
 }
 
-/// Appends the parts that hold, the first line that differs from the sheet that follows, and that the sheet is wrong.
+/// Appends the lines of the parts that are right, the first line that differs from the sheet that follows, what it should
+/// be, and `sheet wrong`.
 fn push_difference(
     text: &mut Vec<u8>,
     wrong: &WrongLine,
@@ -41,7 +42,7 @@ fn push_difference(
     text.extend_from_slice(b"sheet wrong\n")
 }
 
-/// Appends that the form and the votes hold, the first list whose seats do not follow, and that the sheet is wrong.
+/// Appends `form ok`, the line about the votes, the first list whose seats do not follow, and `sheet wrong`.
 fn push_off_list(
     text: &mut Vec<u8>,
     off: &OffList,
@@ -54,7 +55,7 @@ fn push_off_list(
     text.extend_from_slice(b"sheet wrong\n")
 }
 
-/// Appends that the form and the votes hold, the first total that is not met, and that the sheet is wrong.
+/// Appends `form ok`, the line about the votes, the first total that the lists do not add up to, and `sheet wrong`.
 fn push_off_total(
     text: &mut Vec<u8>,
     off: &OffTotal,
@@ -67,7 +68,7 @@ fn push_off_total(
     text.extend_from_slice(b"sheet wrong\n")
 }
 
-/// Appends that the form and the votes hold, that no sheet follows, and that the sheet is wrong.
+/// Appends `form ok`, the line about the votes, the line `no sheet follows ..`, and `sheet wrong`.
 fn push_no_sheet(text: &mut Vec<u8>, held: Option<HeldRows>) -> Result<(), AllocError>
     ensures { OnOk result (text.new.items ≡ text.old.items ++ no_sheet_text held) }
 {

@@ -15,7 +15,7 @@ fn push_shown_line(text: &mut Vec<u8>, line: &[u8]) -> Result<(), AllocError>
     push_shown(text, ShownNames::MarkAndReturn, line)
 }
 
-/// Appends a line that was found, or `nothing`.
+/// Appends a line that was found, or `nothing` if it is empty.
 fn push_found(text: &mut Vec<u8>, found: &[u8]) -> Result<(), AllocError>
     ensures { OnOk result (text.new.items ≡ text.old.items ++ found_text found.now) }
 {

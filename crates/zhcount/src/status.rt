@@ -54,8 +54,8 @@ pub(crate) fn run<I: Read, O: Write, E: Write, F: Files>(
     }
 }
 
-/// The result of a task. What the task hands over is forgotten, not dropped: no destructor runs on it, and the operating system
-/// closes the disk's file when the process ends.
+/// The status with which the program ended. What its task hands over is forgotten, not dropped: no destructor runs on it, and
+/// the operating system closes the disk's file when the process ends.
 pub(crate) fn status_of<T, D: Drop>(ended: Ended<T, D>) -> T
     ensures { result ≡ ended.result }
 {

@@ -20,8 +20,8 @@ fn returned(number: u32, votes: u32) -> Command<'static>
     Command::Return { desk: 1, row }
 }
 
-// `1 return 3 1 1 0`, `1 return 2 3 3 0` and `1 return 1 9 1 0` as a batch. The first row is accepted, the second leaves a
-// gap, and the third is for a list that does not take part.
+// `1 return 3 1 1 0`, `1 return 2 3 3 0` and `1 return 1 9 1 0` as a batch. The first row would be accepted, the second
+// leaves a gap, and the third is for a list that does not stand there.
 const REFUSED: [u8; 37] = [
     0x08, 0x01, 0x00, 0x03, // a batch of three rows
     0x00, 0x03, 0x01, 0x00, 0x00, 0x00, 0x01, 0x00, 0x00, 0x00, 0x00, // the first
@@ -44,7 +44,7 @@ fn see_refusals(rt: &impl Abort, count: &mut Count<'_>) {
     assert!(rt; count.judge(&returned(0, 525)) == Verdict::Refused(Reason::Stale));
 }
 
-// No line has number 0, and no desk's batch has a row for a list that does not take part.
+// No line has number 0, and no desk's batch has a row for a list that does not stand there.
 #[test]
 fn commands_that_no_line_asks_for_are_refused(rt: HostRuntime) -> Result<(), Fail> {
     let setup = rehearsal(rt.alloc())?;

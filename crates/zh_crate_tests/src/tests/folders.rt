@@ -35,12 +35,12 @@ fn stand(alloc: Global, folder: &MemoryFolder<()>, there: &str) -> io::Result<bo
     Ok(listed(alloc, folder)?.as_str() == there)
 }
 
-/// What opening the disk at a path reports.
+/// The fault that opening the disk at a path reports.
 fn opened(folder: &mut MemoryFolder<()>, path: &str) -> Option<FileFault> {
     open(folder, (), path).err()
 }
 
-/// The same if a disk can be made.
+/// The fault that opening the disk at a path reports if a missing or empty file can be made into a disk.
 fn made(folder: &mut MemoryFolder<()>, path: &str) -> Option<FileFault> {
     open_or_make(folder, (), path).err()
 }
@@ -96,7 +96,8 @@ fn a_making_fails_at_each_call(rt: HostRuntime) -> Result<(), Fail> {
         (6, 0, Some(FileFault::Device(FileCause::Failed)), "d 0"),
         (6, 1, Some(FileFault::Device(FileCause::Failed)), "d 0"),
         (6, 2, Some(FileFault::Device(FileCause::Failed)), "d 0"),
-        // calls of the file: its length, the length of a disk, 115 blocks of zeros, a sync, and its length again
+        // calls of the file: asking its length, setting that of a disk, writing 115 blocks of zeros, a sync, and asking its
+        // length again
         (6, 3, Some(FileFault::Device(FileCause::Failed)), "d 0"),
         (6, 116, Some(FileFault::Device(FileCause::Failed)), "d 0"),
         (6, 117, Some(FileFault::Device(FileCause::Failed)), "d 0"),

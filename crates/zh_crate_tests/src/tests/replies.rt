@@ -2,7 +2,7 @@
 
 use zh_commands::{Refusal, Reply, SheetRefusal, write_reply};
 
-// Memory is not refused to a case, and no tie begins in the last column.
+// No case expects `refused memory`, and in no case does a tie begin in the last of 32 columns.
 #[test]
 fn rare_refusals_have_their_names(rt: HostRuntime) {
     let rows: [(Refusal, &[u8]); 2] = [
