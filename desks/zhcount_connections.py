@@ -34,9 +34,8 @@ class Connections:
     def open(self, folder: str) -> None:
         """Makes the socket. Its path by the folder's descriptor is short."""
         at = os.open(folder, os.O_PATH)
-        mask = os.umask(0o117)
         self.socket.bind(f"/proc/self/fd/{at}/desk")
-        os.umask(mask)
+        os.chmod(os.path.join(folder, "desk"), 0o660)
         self.socket.listen(MOST)
         os.close(at)
 
@@ -110,7 +109,5 @@ class Connections:
         self.office.answer(self.office.log.add("line", line, connection.desk, turn))
 
     def tell(self, desk: int, **message: Any) -> None:
-        """Sends a message to a desk, if it is there."""
-        if connection := self.desks.get(desk):
-            with contextlib.suppress(Gone):  # as the next look at it finds
-                connection.send(**message)
+        with contextlib.suppress(KeyError, Gone):  # it is not there, or gone, as the next look at it finds
+            self.desks[desk].send(**message)

@@ -77,10 +77,9 @@ def sync_folder(path: str) -> None:
 
 def named(user: int) -> str:
     """The name of a user; the number of one who has none."""
-    try:
+    with contextlib.suppress(KeyError):
         return pwd.getpwuid(user).pw_name
-    except KeyError:
-        return str(user)
+    return str(user)
 
 
 def holder(path: str) -> str:

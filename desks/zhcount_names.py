@@ -1,5 +1,4 @@
-"""What zhcount-office says to a desk beside its answers: by name, what a line has done; and before a municipality is closed, or the final
-seats are computed, what speaks against it."""
+"""What zhcount-office says to a desk beside its answers: by name, what a line has done; and what speaks against a closing or a `final`."""
 import csv
 import io
 import re
@@ -17,7 +16,6 @@ CLOSINGS = {"close": "closed", "reopen": "open again"}
 
 
 def listed(program: Program, table: str) -> List[List[str]]:
-    """The rows of a table of the set-up."""
     said = subprocess.check_output([program.name, "list", *program.files[:2], "--of", table])
     return list(csv.reader(io.StringIO(said.decode(), newline="")))[1:]
 
@@ -59,8 +57,7 @@ class Names:
         return f"{self.municipalities[municipality]}, {self.groups[group]}: {counted}, version {number}"
 
     def warning(self, state: State, line: str) -> str:
-        """What speaks against a line that closes a municipality, or asks for the final seats: first what is wrong, then what is not
-        confirmed. Of the final seats not all of it is said."""
+        """What speaks against a line that closes a municipality, or asks for the final seats: first errors, then what is not confirmed."""
         asked = re.fullmatch(r"final|close (\d+)", line)
         if not asked:
             return ""

@@ -1,7 +1,6 @@
-"""What zhcount-office puts into its folder for the chancellery while it runs: the newest sheets; and copies of the disk, each made between
-two answers, where no call is in the air, with the lines that were answered by then. A child of its own (`main`) writes into the folder of a
-copy what follows from it and from these lines, and lets the link `now` lead there. In `publish` is what may be published as it is, final or
-not: the votes, the seats as tables and as a sheet, and what checks them; nothing of it names a desk or a person."""
+"""What zhcount-office puts into its folder for the chancellery while it runs: the newest sheets, and copies of the disk. A copy is made
+between two answers, when no call is running, with the lines that were answered by then. A child process (`main`) writes beside it what
+follows from it and from these lines, and points the link `now` there. FOLDER.md describes the files, and which can be published."""
 import contextlib
 import csv
 import glob
@@ -13,15 +12,14 @@ import signal
 import subprocess
 import sys
 import time
-from typing import Any, Callable, Dict, Iterable, Iterator
+from typing import Any, Callable, Dict, List
 
-sys.dont_write_bytecode = True
 from zhcount_log import SHEET, Event, Log, Stopped
 from zhcount_names import Names
 from zhcount_program import Disk, Program, content, plain, put, room_in_memory
 from zhcount_state import State, rows_of
 from zhcount_stream import say
-from zhcount_tables import differing
+from zhcount_tables import differing, table_of
 
 EVERY = 10  # seconds from one copy to the next, at least
 LONGEST = 60  # seconds that a child may take
@@ -44,20 +42,23 @@ class Now:
         self.at, self.priority = float("-inf"), PRIORITY  # when the last copy was made; of its child
         self.shown = ""  # the copy that `now` leads to
 
-    def begin(self) -> None:
-        """Removes the copies that another start has left, and says what no copy can have."""
-        self.clear()
-        if not PAGE:
-            say("the page that checks a sheet is not installed: `now/publish` goes without it")
-
     def clear(self) -> None:
         """Removes each copy that is not shown."""
         for path in glob.glob(f"{glob.escape(self.log.path)}/now-[0-9]*"):
             if path != self.shown:
                 shutil.rmtree(path, ignore_errors=True)
 
+    def note(self) -> None:
+        """Adds the lines that were answered since: after each answer, so that a copy has few to add, however long the log is."""
+        for event in self.log.events(self.state.number):
+            self.state.take(event)
+            if event.kind == "answer":
+                line = self.state.lines[event.desk]
+                self.writer.writerow([line.number, line.at, self.state.start, line.desk, line.turn, line.text, event.text, event.at])
+
     def take(self, line: Event, answer: str) -> None:
-        """Keeps a sheet that was shown, in place of the last one of its kind."""
+        """Notes an answer that was shown, and keeps a sheet in place of the last one of its kind."""
+        self.note()
         if SHEET.match(answer):
             kind = "sheet-final-" if answer.startswith("sheet final") else "sheet-"
             new = os.path.join(self.log.path, f"{kind}{self.log.state.commands}")
@@ -102,18 +103,14 @@ class Now:
         """Copies the disk and the lines, and starts the child."""
         self.at = time.monotonic()
         self.disk.check()
-        for event in self.log.events(self.state.number):
-            self.state.take(event)
-            if event.kind == "answer":
-                line = self.state.lines[event.desk]
-                self.writer.writerow([line.number, line.at, self.state.start, line.desk, line.turn, line.text, event.text, event.at])
+        self.note()
         path, numbers = self.last(), (self.state.commands, os.getpid(), self.priority)
         os.mkdir(path)
         os.chmod(path, 0o2750)
         shutil.copyfile(self.disk.path, os.path.join(path, "disk"))
         with open(os.path.join(path, "lines.csv"), "w", encoding="utf-8") as file:
             file.write(self.lines.getvalue())
-        words = [sys.executable, __file__, self.program.setup, path, *map(str, numbers), self.totals]
+        words = [sys.executable, "-B", __file__, self.program.setup, path, *map(str, numbers), self.totals]
         self.child = subprocess.Popen(words, stdin=subprocess.DEVNULL, stdout=subprocess.DEVNULL, start_new_session=True)
 
     def end_child(self) -> None:
@@ -127,25 +124,15 @@ class Now:
             raise ChildProcessError(f"its process was killed after {time.monotonic() - self.at:.0f} seconds")
 
 
-def lines_in(folder: str) -> Iterator[Dict[str, str]]:
-    with open(os.path.join(folder, "lines.csv"), encoding="utf-8", newline="") as file:
-        yield from csv.DictReader(file)
-
-
-def unconfirmed(program: Program, held: bytes, lines: Iterable[Dict[str, str]]) -> bytes:
+def unconfirmed(program: Program, held: bytes, lines: List[Dict[str, str]]) -> bytes:
     """The rows held that one desk alone has entered, or nobody at a desk, as a table: it follows from the lines and their answers."""
-    state, names, table = State(), Names(program), io.StringIO()
+    state, names = State(), Names(program)
     for it in lines:
-        line = Event(int(it["number"]), it["at"], "line", int(it["desk"]), int(it["turn"]), it["line"])
-        state.take(line)
-        state.take(line._replace(kind="answer", text=it["answer"]))
-    writer = csv.writer(table, lineterminator="\n")
-    table.write("municipality,list,number,votes,desk,municipality_name,list_name\n")
-    for place, row in rows_of(held.decode()).items():
-        desks = state.entered_by((place, row))
-        if len(desks) == 1:
-            writer.writerow([*place, *row, desks, names.municipalities[place[0]], names.groups[place[1]]])
-    return table.getvalue().encode()
+        for kind in ("line", "answer"):
+            state.take(Event(0, "", kind, int(it["desk"]), 0, it[kind]))
+    rows = [[*place, *row, desks, names.municipalities[place[0]], names.groups[place[1]]] for place, row in rows_of(held.decode()).items()
+            if len(desks := state.entered_by((place, row))) == 1]
+    return table_of("municipality,list,number,votes,desk,municipality_name,list_name", rows)
 
 
 def seats_of(program: Program, line: str) -> Dict[str, bytes]:
@@ -172,8 +159,7 @@ def sheet_of(program: Program, line: str, commands: int) -> bytes:
 
 def published(program: Program, files: Dict[str, bytes], line: str, commands: int) -> Dict[str, bytes]:
     """The files of `publish`, by these of the copy: the tables, with a sheet if there are seats, the set-up and the page."""
-    found = {it: files[it] for it in TABLES if it in files}
-    found["setup.toml"] = content(program.setup)
+    found = {"setup.toml": content(program.setup), **{it: files[it] for it in TABLES if it in files}}
     if "no-seats" not in files:
         found["sheet.txt"] = sheet_of(program, line, commands)
     if PAGE:
@@ -188,10 +174,11 @@ def made(setup: str, folder: str, commands: int, totals: str) -> Dict[str, bytes
     implausible, sums = program.done("status", "--implausible")
     if b", %d commands;" % commands not in sums:
         raise Stopped(f"the copy has not the {commands} commands of the log: {plain(sums)}")
-    is_final = any(it["answer"].startswith(f"sheet final {commands} ") for it in lines_in(folder))  # a desk has had this sheet
-    line = "final" if is_final else "sheet"
+    with open(os.path.join(folder, "lines.csv"), encoding="utf-8", newline="") as file:
+        lines = list(csv.DictReader(file))
+    line = "final" if any(it["answer"].startswith(f"sheet final {commands} ") for it in lines) else "sheet"  # as a desk has had it
     files = {"status": status, "sums": sums, "missing": program.done("status", "--missing")[0], "implausible": implausible,
-             "held.csv": held, "unconfirmed": unconfirmed(program, held, lines_in(folder)),
+             "held.csv": held, "unconfirmed": unconfirmed(program, held, lines),
              "votes.csv": program.done("votes")[0], "vote-groups.csv": program.done("votes", "--of", "groups")[0],
              **seats_of(program, line)}
     if totals:

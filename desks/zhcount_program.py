@@ -57,7 +57,6 @@ class Program:
         self.setup, self.disk, self.files, self.is_apart = setup, disk, ["--setup", setup, "--disk", disk], is_apart
 
     def started(self, how: Callable[..., Any], task: str, *flags: str, **more: Any) -> Any:
-        """Calls a task in this way."""
         try:
             return how([self.name, task, *self.files, *flags], start_new_session=self.is_apart, **more)
         except OSError as it:

@@ -1,5 +1,4 @@
-"""What a disk has, and what that says of the log: a start of the office decides by it; and --replay and --rebuild, which run the lines of a
-folder's log over a disk in memory, compare by it."""
+"""What a disk has, by which a start decides; and --replay and --rebuild, which run the lines of a log over a disk in memory and compare."""
 import base64
 import contextlib
 import csv
@@ -46,9 +45,9 @@ def look(program: Program) -> Found:
         (status, sums), (export, _) = copy.done("status"), copy.done("export")
     try:
         commands = int(re.findall(r"(\d+) commands", sums.decode())[0])
-        closed = frozenset(it[0] for it in csv.reader(status.decode().split("\n")[1:-1]) if it[3] == "closed")
+        closed = frozenset(it["number"] for it in csv.DictReader(status.decode().split("\n")) if it["state"] == "closed")
         return Found(commands, rows_of(export.decode()), closed, export.decode(), image)
-    except (ValueError, IndexError):
+    except (ValueError, LookupError):
         raise Stopped(f"what zhcount says of {program.disk} can't be read") from None
 
 
@@ -89,7 +88,6 @@ class Rerun:
         self.other = ""  # the program that was said to be another one
 
     def all(self) -> None:
-        """Takes each event."""
         with contextlib.closing(self.log.events()) as events:
             for event in events:
                 if event.kind == "setup" or event.kind != "line" and event.number >= self.first:
@@ -104,7 +102,6 @@ class Rerun:
         self.program.done("format")
 
     def take_answer(self, event: Event) -> None:
-        """Runs the line that this answers."""
         if event.text == NO_MEMORY:
             return
         if not self.run:  # as the office does at a start
@@ -134,11 +131,9 @@ class Rerun:
             self.run = None
 
     def take_loaded(self, event: Event) -> None:
-        """Goes on with the disk that came by hand."""
         put(self.program.disk, zlib.decompress(base64.b64decode(json.loads(event.text)["image"])))
 
     def follows(self) -> None:
-        """Looks whether the disk has what follows from the log."""
         compare(f"event {self.state.number}: the disk", "same", decide(self.state, look(self.program)))
 
     def sum_up(self) -> None:

@@ -20,7 +20,6 @@ class Event(NamedTuple):
 
 
 def sum_of(before: str, fields: Sequence[Any]) -> str:
-    """The sum of an event after that of the one before."""
     return hashlib.sha256((before + json.dumps(fields)).encode()).hexdigest()
 
 

@@ -1,5 +1,5 @@
-"""What scripts say and hear, over descriptors that do not wait: messages between office, desks and witness, each an object of JSON in a
-line; and lines on standard error. And how an office waits, and is told to end."""
+"""Messages between office, desks and witness, a JSON object in each line, sent without waiting; lines on standard error; and how an office
+waits and is told to end."""
 import contextlib
 import json
 import os
@@ -41,12 +41,10 @@ class Stream:
         self.flush()
 
     def flush(self) -> None:
-        """Writes as much as is taken."""
         while self.left and (taken := self.tried(os.write, self.into, self.left)):
             self.left = self.left[taken:]
 
     def read(self) -> None:
-        """Reads what has come, some of it at once."""
         data = self.tried(os.read, self.out, 65536)
         if data == b"":
             raise Ended("it has ended")
@@ -62,7 +60,6 @@ class Stream:
             raise Ended(it.strerror) from None
 
     def next(self) -> Optional[Dict[str, Any]]:
-        """The next message; None if there is none yet."""
         line, end, rest = self.rest.partition(b"\n")
         if len(line) > self.longest:
             raise Gone(f"a message has more than {self.longest} bytes")

@@ -1,12 +1,11 @@
-"""Tables as spreadsheets write them, CSV with commas or semicolons: returns, whose rows make a batch of a desk; and, for zhcount-office
---totals, the totals that the municipalities' own records state, `municipality,votes`, which grow during the night and may have other
-columns."""
+"""Tables as spreadsheets write them, CSV with commas or semicolons: returns, whose rows make a batch of a desk; and, for --totals, the
+totals that the municipalities' own records state, `municipality,votes`, which grow during the night and may have other columns."""
 import csv
 import io
 import os
 import re
 import stat
-from typing import Container, Dict, List, Tuple
+from typing import Container, Dict, Iterable, List, Tuple
 
 COLUMNS = ("municipality", "list", "number", "votes")
 GERMAN = dict(zip(("Gemeinde", "Liste", "Fassung", "Stimmen"), COLUMNS))
@@ -84,8 +83,7 @@ def text_of(path: str) -> str:
 
 
 def totals_in(path: str, known: Container[str]) -> Tuple[Dict[str, int], List[str]]:
-    """The total of each municipality that has one, and what is wrong: with the file, or with a row, which is left out. A municipality
-    without votes is not known yet. `known` are the numbers of those that there are."""
+    """The totals by now of the municipalities `known`; and what is wrong: with the file, or with a row, which is left out."""
     totals: Dict[str, int] = {}
     remarks = []
     try:
@@ -108,17 +106,17 @@ def totals_in(path: str, known: Container[str]) -> Tuple[Dict[str, int], List[st
     return totals, remarks
 
 
+def table_of(titles: str, rows: Iterable[Iterable[object]]) -> bytes:
+    table = io.StringIO()
+    csv.writer(table, lineterminator="\n").writerows([titles.split(","), *rows])
+    return table.getvalue().encode("utf-8", "backslashreplace")
+
+
 def differing(path: str, status: str) -> Tuple[bytes, List[str]]:
-    """The municipalities whose returns are all in and add up to something else than is stated, and what is wrong there, as a table; and
-    what is wrong alone. `status` is the program's table of the municipalities."""
+    """A table of the municipalities whose returns are all in and do not add up to the stated total, and of all remarks; and these alone."""
     rows = list(csv.DictReader(io.StringIO(status, newline="")))
     totals, remarks = totals_in(path, {it["number"] for it in rows})
-    table = io.StringIO()
-    writer = csv.writer(table, lineterminator="\n")
-    writer.writerow(["municipality", "held_votes", "stated_votes", "municipality_name", "remark"])
-    for it in rows:
-        stated = totals.get(it["number"])
-        if stated not in (None, int(it["votes"])) and it["held"] == it["due"]:
-            writer.writerow([it["number"], it["votes"], stated, it["name"], ""])
-    writer.writerows(["", "", "", "", remark] for remark in remarks)
-    return table.getvalue().encode("utf-8", "backslashreplace"), remarks
+    found = [[it["number"], it["votes"], totals[it["number"]], it["name"], ""] for it in rows
+             if totals.get(it["number"]) not in (None, int(it["votes"])) and it["held"] == it["due"]]
+    found += [["", "", "", "", it] for it in remarks]
+    return table_of("municipality,held_votes,stated_votes,municipality_name,remark", found), remarks

@@ -1,19 +1,17 @@
 """Plants: mistakes, put one by one into a copy of what is tested. Each makes the test fail that it names. They are entries of the files
-tests/PART/plants/*.edits, one file for each script or part, with a blank line between entries:
+tests/PART/plants/FILE.edits, one for each FILE in desks, page/parts or crates/zh_file/src, with a blank line between entries:
 
   name: torn_line_is_sent
-  file: zhcount-desk
   seen by: test_desks.py::test_torn_line
   old: the right text, which occurs once in the file; for several lines give each its own 'old:'
   new: the wrong text, likewise
   says: what the test then reports; not in tests/real_file. A test that only waits in vain reports 'not after: ' and what it waits for
 
-The file is a path in desks, page/parts or crates/zh_file. If a mistake can't change anything that a person sees, it has 'changes
-nothing:' and the reason instead of 'seen by:' and 'says:', and no test is run for it. As a control, each test that a plant names must
-pass on a copy without a mistake.
+If a mistake can't change anything that a person sees, it has 'changes nothing:' and the reason instead of 'seen by:' and 'says:', and no
+test is run for it. As a control, each test that a plant names must pass on a copy without a mistake.
 
-A run that sees all mistakes of a part writes the sum of its files to tests/plants.passed. While the sum stays, `make test` tries
-IN_TURN of the part's mistakes, other ones after each commit; `make test` of other files tries all of them."""
+A run that sees all mistakes of desks or of the page writes the sum of their files to tests/plants.passed. While the sum stays,
+`make test` tries IN_TURN of them, other ones after each commit; with another sum it tries all. Those of tests/real_file are slow."""
 import glob
 import hashlib
 import importlib
@@ -39,7 +37,7 @@ PASSED = TOP / "tests/plants.passed"
 IN_TURN = 6
 UNREAD = {".md", ".pyc", "__pycache__", "out"}
 
-FIELDS = {"file", "seen by", "says", "changes nothing", "old", "new"}
+FIELDS = {"seen by", "says", "changes nothing", "old", "new"}
 # How a test fails that sees a mistake: by what it compares, or by a file or an end that does not come. Other faults are its own.
 SEEN = re.compile(r"^FAILED .*? - (?:AssertionError|Failed|FileNotFoundError|PermissionError|BrokenPipeError|subprocess\.\w+): (.*)", re.M)
 LATE = re.compile(r"not after [\d.]+ seconds|.* timed out after [\d.]+ seconds")
@@ -61,7 +59,7 @@ class Part:
         folder = TOP / "tests" / self.name / "plants"
         found: Dict[str, Plant] = {}
         for file in sorted(folder.glob("*.edits")):
-            entries = {name: plant_in(text, self.says) for name, text in entries_of(file).items()}
+            entries = {name: {"file": file.stem, **plant_in(text, self.says)} for name, text in entries_of(file).items()}
             assert not entries.keys() & found.keys(), f"{file} has a name that another file has"
             found.update(entries)
         return found
@@ -89,14 +87,14 @@ def plant_in(text: str, says: bool) -> Plant:
         name, colon, rest = line.partition(":")
         assert name in FIELDS and colon, f"this line is none of a plant: {line[:80]}"
         found[name] = f"{found[name]}\n{rest[1:]}" if name in found else rest[1:]
-    assert {"file", "old", "new"} <= found.keys(), "it needs a file, an old and a new text"
+    assert {"old", "new"} <= found.keys(), "it needs an old and a new text"
     assert ("seen by" in found) != ("changes nothing" in found), "it needs a test that sees it, or the reason why it changes nothing"
     assert "says" in found or "changes nothing" in found or not says, f"it needs what the test reports: {text}"
     return found
 
 
 def put(plant: Plant, folder: Path) -> None:
-    path = folder / plant["file"]
+    path, = folder.rglob(plant["file"])
     text = path.read_text()
     assert text.count(plant["old"]) == 1, f"the right text is in {plant['file']} {text.count(plant['old'])} times, not once"
     path.write_text(text.replace(plant["old"], plant["new"]))

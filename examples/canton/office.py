@@ -100,7 +100,12 @@ class Office:
         for municipality in self.canton.municipalities():
             if municipality not in self.closed:
                 return f"refused notclosed {municipality}"
-        return f"sheet final {self.commands}"
+        return self.on_sheet(_desk).replace("provisional", "final")
+
+    def export(self):
+        """What `export` writes."""
+        rows = [f"{m},{g},{n},{'withdrawn' if votes is None else votes}" for (m, g), (n, votes) in sorted(self.held.items())]
+        return "".join(f"{it}\n" for it in ["municipality,list,number,votes", *rows])
 
     def status(self):
         """What `status --constituencies` writes, with its last line."""

@@ -48,7 +48,7 @@ function listDetail(sheet, [constituency, group, list], faults, follow) {
   return detail(title, list, faults, [
     row(say('votesWord'), grouped(list.votes)),
     row(say('quotientWord'), grouped(`${list.votes} / (${product}) = `), roundsTo(quotient(twice, 2n * unit))),
-    row(say('interval'), say(list.seats > 0n ? 'between' : 'below', { ...ends, unit: say('unitVotes') })),
+    row(say('withDivisors'), say(list.seats > 0n ? 'between' : 'below', { ...ends, unit: say('unitVotes') })),
     wholeNumbers(twice, unit, list.seats, { unit: product, amount: list.votes, show: (number) => exact(number, 12) }),
     right,
   ]);
@@ -66,7 +66,7 @@ function keyRows([word, unit], weight, key, seats, isKeyWrong) {
       isKeyWrong ? make('span', { class: 'said wrong' }, ` ${say('keyWrong', { line: key.line })}`) : null),
     key.a > 0n && key.b > 0n ? [
       row(say('quotientWord'), grouped(`${weight} / (${key.a}/${key.b}) = `), roundsTo(quotient(weight * key.b, key.a))),
-      row(say('interval'), say(seats > 0n ? 'between' : 'below', { low: grouped(low), high: grouped(high), unit })),
+      row(say('withKey'), say(seats > 0n ? 'between' : 'below', { low: grouped(low), high: grouped(high), unit })),
       wholeNumbers(2n * weight * key.b, key.a, seats, { unit: key.a, amount: `${key.b} × ${weight}`, show: String }, !isKeyWrong),
     ] : null,
   ];

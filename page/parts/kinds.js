@@ -6,7 +6,7 @@ Object.assign(WORDS, {
   isCopied: ['Copied from a desk: the desk’s number is missing', 'Von einem Pult kopiert: Die Nummer des Pults fehlt'],
   isDamagedSays: ['The seats are not checked, and nothing is said against the sheet that was published.',
     'Die Sitze sind nicht geprüft, und gegen das veröffentlichte Resultatblatt ist damit nichts gesagt.'],
-  isNoSheet: ['Wrong: this is no sheet', 'Falsch: kein Resultatblatt'],
+  isNoSheet: ['Wrong: this is not a sheet', 'Falsch: kein Resultatblatt'],
   isOtherVotes: ['Does not match the returns: other votes', 'Passt nicht zu den Meldungen: andere Stimmen'],
   isOtherVotesSame: ['Does not match the returns: other votes, the same seats',
     'Passt nicht zu den Meldungen: andere Stimmen, gleiche Sitze'],
@@ -69,7 +69,7 @@ Object.assign(WORDS, {
 
 // What a sheet that can't be read has become on its way, by the fault in it.
 const ON_ITS_WAY = {
-  cut: 'isCut', cutWithin: 'isCut', early: 'isCut', mark: 'isAltered', carriageReturn: 'isAltered', noDesk: 'isCopied',
+  cut: 'isCut', cutWithin: 'isCut', early: 'isCut', mark: 'isAltered', carriageReturn: 'isAltered', blank: 'isAltered', noDesk: 'isCopied',
   unreadable: 'isNotRead',
 };
 const OF_SETUP = ['setupHouse', 'setupSays', 'setupPersons', 'setupQuorum', 'setupNoQuorum', 'noQuorum', 'notInSetup', 'nextMissing',

@@ -39,9 +39,10 @@ Object.assign(WORDS, {
   provedLong: ['Shown as far as here; all of it is in the file that is saved.', 'Gezeigt bis hier; die gespeicherte Datei hat alles.'],
   provedSave: ['Save the verdict', 'Prüfergebnis speichern'],
   whichPage: ['Is this the real page of zhcount {version}? A forged one would say the same. Compute the SHA-256 of this file, and compare '
-    + 'it with the one in the README of zhcount, from another source than this page:',
+    + 'it with one that you did not get together with this page, for example from a newspaper or from the README of zhcount:',
   'Ist das die echte Seite von zhcount {version}? Eine gefälschte würde dasselbe sagen. Berechnen Sie die Prüfsumme (SHA-256) dieser '
-    + 'Datei, und vergleichen Sie sie mit jener im README von zhcount, aus einer anderen Quelle als dieser Seite:'],
+    + 'Datei, und vergleichen Sie sie mit einer, die Sie nicht zusammen mit dieser Seite bekommen haben, zum Beispiel aus einer Zeitung '
+    + 'oder aus dem README von zhcount:'],
 });
 
 // Its state is one of none (no sheet), alone (no set-up), runs, right, wrong, refused (by the set-up or the rows) and failed, with a

@@ -21,6 +21,7 @@ Object.assign(WORDS, {
   noGroup: ['there is no such group', 'diese Gruppe gibt es nicht'],
   order: ['it is there twice, or out of order', 'sie steht doppelt oder am falschen Ort'],
   after: ['something follows the line “end”', 'nach der Zeile «end» folgt noch etwas'],
+  blank: ['an empty line follows the line “end”', 'nach der Zeile «end» folgt eine leere Zeile'],
   notUnderstood: ['this line is not understood here (comments, names, numbers without leading zeros and arrays on one line are)',
     'diese Zeile wird hier nicht verstanden (Kommentare, Namen, Zahlen ohne führende Nullen und Listen auf einer Zeile schon)'],
   loneReturn: ['a carriage return (CR) stands in it without a line feed', 'ein Wagenrücklauf (CR) steht darin ohne Zeilenvorschub'],

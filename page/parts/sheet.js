@@ -90,6 +90,9 @@ class Lines {
 
   get text() { return this.lines[this.at] ?? this.rest; }
 
+  // Whether only empty lines are left.
+  get isBlank() { return [...this.lines.slice(this.at), this.rest].every((text) => text.trim() === ''); }
+
   fault(reason, values) { return new Fault(this.number, this.text, reason, values); }
 
   has(form) { return this.at < this.lines.length && FORMS[form].test(this.text); }
@@ -180,7 +183,7 @@ function readSheet(text) {
   const groups = numbered(lines, 'group', groupOf);
   const lists = listsIn(lines, constituencies, groups);
   lines.take(lists.length === 0 ? 'list' : 'end');
-  if (lines.at < lines.lines.length || lines.rest !== '') throw lines.fault('after');
+  if (lines.at < lines.lines.length || lines.rest !== '') throw lines.fault(lines.isBlank ? 'blank' : 'after');
   return {
     kind: head.words[1], commands: BigInt(head.words[2]), head,
     house: { seats: BigInt(house.words[0]), line: house.line, text: house.text },

@@ -10,7 +10,7 @@ import pathlib
 import sqlite3
 import tempfile
 import zlib
-from typing import Dict, Iterator, List, Optional
+from typing import Dict, Iterator, List
 
 APPLICATION, VERSION = 0x7A68636E, 1
 SCHEMA = """
@@ -37,26 +37,6 @@ class Event:
 
     def facts(self) -> Dict:
         return json.loads(self.text)
-
-
-@dataclasses.dataclass(frozen=True)
-class Line:
-    """A line with its answer, if it has one, and the start in which it was noted."""
-    event: Event
-    start: int
-    answer: Optional[str] = None
-
-    @property
-    def desk(self) -> int:
-        return self.event.desk
-
-    @property
-    def turn(self) -> int:
-        return self.event.turn
-
-    @property
-    def text(self) -> str:
-        return self.event.text
 
 
 # What a log has
@@ -95,19 +75,6 @@ def events(folder, *kinds: str) -> List[Event]:
         except sqlite3.OperationalError:  # it is being made
             return []
     return [it for it in found if not kinds or it.kind in kinds]
-
-
-def lines(folder, desk: Optional[int] = None) -> List[Line]:
-    """The lines of a folder, or those of a desk, in their order."""
-    found: Dict = {}
-    start = 0
-    for it in events(folder):
-        start += it.kind == "start"
-        if it.kind == "line":
-            found[it.desk, it.turn] = Line(it, start)
-        elif it.kind == "answer":
-            found[it.desk, it.turn] = dataclasses.replace(found[it.desk, it.turn], answer=it.text)
-    return [it for it in found.values() if desk in (None, it.desk)]
 
 
 def last_sum(folder) -> str:

@@ -8,7 +8,7 @@ import re
 from counting import Count
 from logs import Written, noted
 from places import PROGRAM, REHEARSAL, TOP
-from processes import same
+from processes import same, that
 from room import Room
 
 WHOLE = re.compile(r"(?:^\d sheet (?:provisional|final) \d+\n(?:.*\n)*?end|^.*)\n", re.M)
@@ -75,7 +75,7 @@ class Night(Room):
 
     def drop(self, desk, why):
         """Has the next start drop the batch of a desk, of which `run` refuses a row."""
-        del self.count.batches[desk]
+        del self.count.batches[str(desk)]
         self.dropped[str(desk)] = why
 
     def put(self):
@@ -94,7 +94,7 @@ class Night(Room):
         same(f"answers to {lines}", len(again) + len(lines), len(said))
         for line, answer in zip(lines, said[len(again):]):
             self.before_last = copy.deepcopy(self.count)
-            wanted = self.count.answer(int(line[0]), line[2:])
+            wanted = self.count.answer(line)
             if line[2:] not in ("sheet", "final"):  # whether there are seats is proved, and not in this model
                 same(f"the answer to {line}", wanted, answer)
         return said[len(again):]
@@ -102,13 +102,9 @@ class Night(Room):
     # What comes by hand, while no office runs
 
     def load(self, *rows):
-        """A table. Its file."""
-        path = self.path / f"loaded{self.count.commands}.csv"
-        path.write_text("".join(f"{it}\n" for it in ["municipality,list,number,votes", *rows]))
-        same(f"the loading of {rows}", f"stored {self.count.commands + 1}\n", self.zhcount("load", "--csv", path))
+        same(f"the loading of {rows}", f"stored {self.count.commands + 1}\n", super().load(*rows))
         self.count.load(*(tuple(map(int, it.split(","))) for it in rows))
         self.is_by_hand = True
-        return path
 
     def type(self, *lines):
         """Lines that somebody types at the program itself. Batches of desks are no concern of theirs."""
@@ -132,7 +128,13 @@ class Night(Room):
         before = sorted(os.listdir(self.path))
         said = self.rebuild(status=1)
         same("the files beside", [it for it in before if it != self.new.name], sorted(os.listdir(self.path)))
+        that(f"it says so: {said}", "not made: " in said)
         return said
+
+    def both_refuse(self, text):
+        """Replay and rebuild say this."""
+        for said in (self.replay(status=1), self.refused()):
+            that(f"{text}: {said}", text in said)
 
 
 def sum_of(data):

@@ -12,12 +12,12 @@ import subprocess
 import sys
 import tempfile
 
-from counting import Count, counted
+from counting import counted
 from logs import events
 from places import PROGRAM, REHEARSAL, TOP
 from processes import HAS_ENDED, SECONDS, Desk, Process, same, stand_still, stays, that, unread_by, until
 
-__all__ = ["HAS_ENDED", "MODES", "SCRIPTS", "SECONDS", "Count", "Desk", "Process", "Room", "let_in", "running", "same", "stand_still",
+__all__ = ["HAS_ENDED", "MODES", "SCRIPTS", "SECONDS", "Desk", "Process", "Room", "let_in", "running", "same", "stand_still",
            "stays", "that", "until"]
 SCRIPTS = pathlib.Path(os.environ.get("DESKS", TOP / "desks"))
 FORMATTED = []  # folders that go with the tests
@@ -206,21 +206,18 @@ class Room:
         until("it is given", lambda: unread_by(run_process))
         return run_process
 
-    def lost(self, desk, line):
-        """Types a line which is noted and unanswered when desk, office and run are killed."""
+    def stops_at(self, desk, line, is_stored=False):
+        """Types a line which is noted and unanswered when the office is killed. Its run then stores it, or is killed too. The desk."""
         run_process = self.unanswered(desk, line)
-        desk.kill()
-        self.office.kill()
-        os.kill(run_process, signal.SIGKILL)
-        desk.wait(), self.office.wait()
-
-    def outlived(self, desk, line):
-        """Types a line which is noted and unanswered when desk and office are killed. The run then stores it, and ends."""
-        run_process = self.unanswered(desk, line)
-        desk.kill()
         self.stop(signal.SIGKILL)
-        os.kill(run_process, signal.SIGCONT)
+        os.kill(run_process, signal.SIGCONT if is_stored else signal.SIGKILL)
         until("the run has ended", lambda: not os.path.exists(f"/proc/{run_process}"))
+        return desk
+
+    def lost(self, desk, line, is_stored=False):
+        """Likewise; the desk is killed too."""
+        self.stops_at(desk, line, is_stored).kill()
+        desk.wait()
 
     # What there is
 

@@ -20,50 +20,24 @@ def test_batch_is_left_open(room):
     that(f"it is not spoken of: {desk.said()}", "batch" not in desk.said())
 
 
-def test_commit_that_was_stored(room):
-    """a commit that was stored before a stop is not given again: its batch is done, also where another desk has corrected a row"""
-    room.outlived(room.desk(5).talk("open -> held 0", "row 1 1 1 525 -> held 1"), "commit")
-    room.start()
-    same("a correction", ["stored 2"], room.ask(2, "return 1 1 2 530").out)
-    desk = room.ask(5, "drop")
-    desk.says("before: commit: stored 1")
-    same("the answer", ["refused nobatch"], desk.out)
-    that(f"no batch is spoken of: {desk.said()}", "a batch is open" not in desk.said())
-    room.check()
-
-
-def test_batch_before_a_lost_line(room):
-    """the line that a stop left without an answer is the one that a new connection speaks of, and not a row that was given again"""
-    room.lost(room.desk(3).talk("open -> held 0", "row 1 1 1 525 -> held 1"), "return 3 1 1 90")
-    room.start()
-    desk = room.ask(3, "show 3 1", "commit")
-    desk.says("before: return 3 1 1 90: stored 1", "a batch is open; its rows: 1; 'commit' or 'drop' it")
-    same("the answers", ["shows 1 90", "stored 2"], desk.out)
-    room.check()
-
-
 def test_batches_are_given_again(room):
-    """rows of open batches are given again, before any desk, without a record; a committed or dropped one is not"""
+    """rows of open batches are given again, before any desk, without a record, also after a refused commit; a committed or dropped one is
+    not"""
     room.ask(5, "open", "row 1 1 1 525", "row 1 2 1 300")
     room.ask(6, "open", "row 2 1 1 240", "commit")
     room.ask(7, "open", "row 2 2 1 330", "drop")
     same("it was entered before", "same", room.ask(8, "open", "row 2 1 1 240", "commit").out[-1])
+    same("it is refused", "refused gap", room.ask(4, "open", "row 1 1 2 525", "commit").out[-1])
     for _ in range(2):
         room.restart()
+    same("it is still open", ["refused gap", "dropped 1"], room.ask(4, "commit", "drop").out)
     desk = room.ask(5, "row 1 3 1 120", "commit", "show 1 1")
     desk.says("before: row 1 2 1 300: held 2", "a batch is open; its rows: 2; 'commit' or 'drop' it")
     same("its answers", ["held 3", "stored 2", "shows 1 525"], desk.out)
     for number in (6, 7, 8):
-        same(f"desk {number}", ["refused nobatch"], room.ask(number, "commit").out)
+        desk = room.ask(number, "commit")
+        same(f"desk {number}", (["refused nobatch"], False), (desk.out, "a batch is open" in desk.said()))
     same("its lines", ["open", "row 1 1 1 525", "row 1 2 1 300", "row 1 3 1 120", "commit", "show 1 1"], [it for it, _ in room.of_desk(5)])
-    room.check()
-
-
-def test_batch_survives_a_refused_commit(room):
-    """a batch whose commit was refused stays open over a stop"""
-    room.ask(5, "open", "row 1 1 2 525", "commit")
-    room.restart()
-    same("the answers", ["refused gap", "dropped 1"], room.ask(5, "commit", "drop").out)
     room.check()
 
 

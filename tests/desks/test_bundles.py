@@ -8,9 +8,9 @@ import subprocess
 import canton as cantons
 import night
 import office as offices
-from now import CLOSINGS, NEVER, RETURNS, QuickRoom, compare_folder, model, published
+from now import CLOSINGS, RETURNS, QuickRoom, compare_folder, model, published
 from places import PROGRAM, TOP
-from processes import same, stays, that, until
+from processes import same, that, until
 from room import running
 
 ROOM = QuickRoom
@@ -76,18 +76,23 @@ def test_without_the_page(room):
     room.stop()
 
 
-def test_no_sheet_without_seats(new_room):
-    """a copy whose sheet can't be had is not shown, nor one that zhcount says something else of"""
-    for task, text in [("run", "no sheet of the copy: 1 refused"), ("seats", "zhcount seats: zhcount: memory")]:
-        said = "echo '1 refused memory'; exit" if task == "run" else "echo 'zhcount: memory' >&2; exit 1"
-        new_room.stands_in(f"[ $1 = {task} ] && [ -e '{new_room.held}' ] && {{ {said}; }}")
+def test_child_that_fails(new_room):
+    """a copy that zhcount says something else of, or whose sheet fails, is not shown: the office says why, goes on and tries again"""
+    new_room.start()
+    new_room.ask(1, *RETURNS)
+    new_room.stop()
+    ill = "echo 'zhcount: ill' >&2; exit 1"
+    for number, (task, does, text) in enumerate([("run", "echo '1 refused memory'; exit", "no sheet of the copy: 1 refused"),
+                                                 ("seats", ill, "zhcount seats: zhcount: ill"),
+                                                 ("status", ill, "zhcount status: zhcount: ill")], 10):
+        new_room.stands_in(f"[ $1 = {task} ] && [ -e '{new_room.held}' ] && {{ {does}; }}")
         new_room.start()
-        new_room.ask(1, *RETURNS)
-        new_room.shows(9)
+        new_room.shows(number - 1)
         new_room.held.touch()
-        same("the answer", ["shows 1 525"], new_room.ask(2, "show 1 1").out)
-        new_room.office.says(f"could not be renewed: {text}")
+        same("the answer", [f"stored {number}"], new_room.ask(2, f"return 1 1 {number - 8} 525").out)
+        new_room.office.says(f"zhcount-office: `now` could not be renewed: {text}")
         new_room.held.unlink()
+        new_room.shows(number)
         new_room.stop()
 
 
@@ -190,14 +195,3 @@ def test_differs(new_room):
 
 def shows_differs(room, rows):
     until(lambda: f"it shows {rows}, and not {text_of(room, 'differs')}", lambda: text_of(room, "differs") == DIFFERS + rows)
-
-
-def test_totals_whatever_they_are():
-    """an office goes on whatever its file of totals is"""
-    with QuickRoom(every=NEVER) as room:
-        room.start("--totals", room.path)
-        same("the answers", ["stored 1"], room.ask(1, RETURNS[0]).out)
-        room.shows(0)
-        room.office.says(f"{room.path} can't be read: [Errno 21] Is a directory: '{room.path}'")
-        stays("it goes on", lambda: not room.office.has_ended())
-        room.stop()

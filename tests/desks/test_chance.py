@@ -14,8 +14,10 @@ import pytest
 
 from counting import Count, random_line
 from logs import events
+from now import command_of
+from people import Person
 from quiet import QuietRoom, patient_scripts
-from room import HAS_ENDED, same, that, until
+from room import same, that, until
 
 pytestmark = [pytest.mark.long, pytest.mark.xdist_group("chance")]
 KILLS, SEED = int(os.environ.get("KILLS", "15")), int(os.environ.get("SEED", "86"))
@@ -24,63 +26,27 @@ LEAST = 4  # of a desk, so that some are commands however soon each office is ki
 PAUSES = (0.01, 0.05, 0.1, 0.2, 0.4, 0.8)  # seconds between two kills, at most
 
 
-class Person:
-    """Who works at a desk: types a line, reads its answer, and connects again where the desk was killed."""
+class Worker(Person):
+    """A person whose lines come by chance."""
 
     def __init__(self, night, number):
-        self.night, self.number, self.chance = night, number, random.Random(SEED * 10 + number)
-        self.desk, self.shown = None, []
+        super().__init__(night.room, number)
+        self.night, self.chance = night, random.Random(SEED * 10 + number)
 
     def work(self):
-        last = ""
-        for _ in range(LINES):
-            if self.night.is_over.is_set():
-                break
-            line = last
+        while len(self.typed) < LINES and not self.night.is_over.is_set():
+            line = last = self.typed[-1][0] if self.typed else ""
             while line == last:  # so that a greeting says which one it speaks of
                 line = random_line(self.chance, self.night.seen)
-            last = line
             answer = self.type(line)
-            self.shown.append((line, answer.split("\n")[0]))
             if re.match("(return|withdraw) ", line) and answer.startswith("stored"):
                 self.night.seen.held[tuple(map(int, line.split()[1:3]))] = int(line.split()[3]), None
         if self.desk:
             status = self.desk.end()  # the last kill may have come after its last answer
             that(f"desk {self.number} ends with {status}: {self.desk.said()}", status in (0, -signal.SIGKILL))
 
-    def type(self, line):
-        """The answer to a line, whatever happens meanwhile."""
-        while True:
-            if not self.desk:
-                self.desk = self.night.room.desk(self.number)
-                found = self.before()
-                if found and found[0] == line:
-                    return found[1]
-                if found is None:
-                    continue
-            self.desk.write(f"{line}\n")
-            answer = self.desk.answer(line)
-            if answer != HAS_ENDED:
-                return answer
-            self.has_gone()
-
-    def has_gone(self):
-        status = self.desk.wait()
-        is_refused = "another connection has this desk" in self.desk.said()  # a moment after the one before was killed
-        that(f"desk {self.number} ends with {status}: {self.desk.said()}", status == -signal.SIGKILL or is_refused)
-        self.desk = None
-
-    def before(self):
-        """What a new connection says of the last line, with its answer; () where there is none, None where the connection has ended."""
-        until(lambda: f"desk {self.number} is let in: {self.desk.said()}", lambda: self.desk.is_let_in() or self.desk.has_ended())
-        if self.shown or self.night.room.of_desk(self.number):
-            until(lambda: f"desk {self.number} speaks of its last line: {self.desk.said()}",
-                  lambda: "before: " in self.desk.said() or self.desk.has_ended())
-        found = re.search("before: (.*?): (.*)", self.desk.said())
-        if self.desk.has_ended():
-            self.has_gone()
-            return None
-        return found.groups() if found else ()
+    def is_excused(self, status):
+        return super().is_excused(status) or "another connection has this desk" in self.desk.said()  # the one before was just killed
 
 
 class Night:
@@ -89,7 +55,7 @@ class Night:
     def __init__(self, room):
         self.room, self.chance, self.is_over = room, random.Random(SEED), threading.Event()
         self.seen = Count()  # roughly, so that lines make sense
-        self.people = [Person(self, number) for number in range(1, 9)]
+        self.people = [Worker(self, number) for number in range(1, 9)]
         self.killed = {"office": 0, "run": 0, "desk": 0, "witness": 0}
 
     def pid_of(self, what):
@@ -131,7 +97,7 @@ class Night:
                     self.pause()
                     self.kill()
                 else:
-                    if all(len(it.shown) >= LEAST for it in self.people):
+                    if all(len(it.typed) >= LEAST for it in self.people):
                         self.is_over.set()
                     time.sleep(0.02)
                 if any(it.done() and it.exception() for it in work):
@@ -141,19 +107,12 @@ class Night:
         until(lambda: f"the office serves: {self.room.office.said()}", lambda: self.look_after_office() or self.room.serves())
 
 
-def command_of(pid):
-    with contextlib.suppress(OSError), open(f"/proc/{pid}/cmdline", "rb") as file:
-        return file.read()
-    return b""
-
-
 def check(night):
     """What people were shown is what the log has, of each desk in its order, and each answer there is that of the manual."""
     room = night.room
-    room.check({it.number: [line for line, _ in it.shown] for it in night.people})
+    room.check()
     for it in night.people:
-        noted = [(line, re.sub(r"^(sheet \w+ \d+) .*", rf"{it.number} \1", answer)) for line, answer in room.of_desk(it.number)]
-        same(f"what desk {it.number} was shown", noted, it.shown)
+        it.check()
     stored = [it.text for it in room.events() if it.kind == "answer" and it.text.startswith("stored ")]
     same("the commands", [f"stored {number}" for number in range(1, len(stored) + 1)], stored)
     that(f"commands were stored: {len(stored)}", len(stored) > 5)

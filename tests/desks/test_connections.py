@@ -9,7 +9,7 @@ import subprocess
 import pytest
 
 from quiet import QuietRoom
-from room import SECONDS, let_in, running, same, stand_still, stays, that
+from room import SECONDS, let_in, running, same, stand_still, that
 
 
 def put_aside(room):
@@ -41,10 +41,8 @@ def test_another_log(room):
 def test_another_log_while_it_waits(room):
     """a desk that waits for an answer, or for a line, ends when its office has another log, and says what has no answer"""
     waits, is_idle = (room.desk(number).talk("show 1 1 -> none") for number in (3, 4))
-    run_process = room.unanswered(waits, "return 3 1 1 90")
+    room.stops_at(waits, "return 3 1 1 90")
     put_aside(room)
-    room.office.kill()
-    os.kill(run_process, signal.SIGKILL)
     room.start()
     for desk in (waits, is_idle):
         same("its end", 1, desk.wait())
@@ -53,28 +51,13 @@ def test_another_log_while_it_waits(room):
     same("connected again", ["none"], room.ask(3, "show 3 1").out)
 
 
-def test_folder_comes_back(room):
-    """a desk whose office has ended, and whose folder is put aside, waits, and goes on once the folder is there again"""
-    desk = room.desk(3).talk("show 1 1 -> none")
-    room.stop()
-    desk.says("the office has ended: waiting; what is unanswered is kept")
-    room.folder.rename(f"{room.folder}.aside")
-    desk.write("return 3 1 1 90\n")
-    stays("it waits", lambda: not desk.has_ended(), 1)
-    os.rename(f"{room.folder}.aside", room.folder)
-    room.start()
-    same("the answer", "stored 1", desk.answer())
-
-
 def test_older_copy_of_the_log(room):
     """a desk whose office has an older copy of its log gives its line up, and says so, since answers that it knows are not there"""
     desk = room.desk(3).talk("show 1 1 -> none")
     room.stop()
     copied = (room.folder / "night.db").read_bytes()
     room.start()
-    run_process = room.unanswered(desk.talk("show 1 2 -> none"), "return 3 1 1 90")
-    room.stop(signal.SIGKILL)
-    os.kill(run_process, signal.SIGKILL)
+    room.stops_at(desk.talk("show 1 2 -> none"), "return 3 1 1 90")
     (room.folder / "night.db").write_bytes(copied)
     (room.folder / "night.db-wal").unlink()
     room.start()
@@ -148,30 +131,22 @@ def clock_room():
         yield room
 
 
-def test_taken_over(clock_room):
-    """a desk whose connection is silent is taken over by a new one at once; the one before ends, and its line is in its place"""
+@pytest.mark.parametrize("has_typed", [False, True], ids=["idle", "stopped"])
+def test_taken_over(clock_room, has_typed):
+    """a desk whose connection is silent is taken over by a new one at once; the one before ends, and its line is in its place. One that
+    stands still meanwhile gives up the line that it has not sent"""
     room = clock_room
     first = room.desk(7).talk("return 1 1 1 525 -> stored 1")
+    if has_typed:
+        stand_still(first.process.pid)  # so that it finds both, the line and what the office says
+        first.write("close 1\n")
     room.goes_on(SILENT + 1)
     second = let_in(room, 7)
     second.says("before: return 1 1 1 525: stored 1")
-    same("the end of the first", 1, first.wait())
-    that(f"it says why: {first.said()}", re.search(r"desk 7: \w+ has taken this desk over", first.said()))
-    second.talk("return 1 1 2 530 -> stored 2").end()
-    room.check({7: ["return 1 1 1 525", "return 1 1 2 530"]})
-
-
-def test_taken_over_while_it_is_stopped(clock_room):
-    """a desk that stands still, and is taken over, gives up the line that it has not sent when it goes on"""
-    room = clock_room
-    first = room.desk(7).talk("return 1 1 1 525 -> stored 1")
-    stand_still(first.process.pid)  # so that it finds both, the line and what the office says
-    first.write("close 1\n")
-    room.goes_on(SILENT + 1)
-    second = room.desk(7).talk("return 1 1 2 530 -> stored 2")
+    second.talk("return 1 1 2 530 -> stored 2")
     first.kill(signal.SIGCONT)
     same("the end of the first", 1, first.wait())
-    that(f"it says why: {first.said()}", "has taken this desk over" in first.said())
+    that(f"it says why: {first.said()}", re.search(r"desk 7: \w+ has taken this desk over", first.said()))
     second.talk("show 1 1 -> shows 2 530").end()
     room.check({7: ["return 1 1 1 525", "return 1 1 2 530", "show 1 1"]})
 
@@ -208,9 +183,3 @@ def test_closed_streams(room):
     same("with none", 0, shown("<&- >&- 2>&-")[0])
     same("the lines that came", ["return 1 1 1 525", "show 1 1", "show 1 1"], [it for it, _ in room.of_desk(3)])
     room.ask(3, end="").says("before: show 1 1: shows 1 525")
-
-
-@pytest.mark.parametrize("words", [[], ["0"], ["9"], ["x"], ["1", "a", "b"], ["--none"]])
-def test_arguments(room, words):
-    """arguments that are none have status 2"""
-    same("the status", 2, subprocess.run(room.script("zhcount-desk", *words), capture_output=True).returncode)

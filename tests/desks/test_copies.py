@@ -13,7 +13,7 @@ from now import NEVER, RETURNS, QuickRoom, command_of, compare, link_of, names_o
 from places import PROGRAM
 from processes import same, stays, that, until
 from room import Room, running
-from watch import Stop, WatchedRoom, made_library
+from watch import Stop, WatchedRoom
 from witnessed import Witnessed
 
 # A run that spoils the first byte of the disk for as long as a line is in the air.
@@ -118,20 +118,6 @@ def test_copy_of_another_disk(new_room):
 # The child
 
 
-def test_failing_child(new_room):
-    """of a child that fails the log says why, and the office goes on, and tries again"""
-    tries = new_room.path / "tries"
-    new_room.on_copies(f"[ -e '{new_room.held}' ] && {{ echo >> '{tries}'; echo 'zhcount: disk damaged' >&2; exit 1; }}")
-    new_room.held.write_text("")
-    new_room.start()
-    until("it is tried again", lambda: tries.exists() and len(tries.read_text()) >= 3)
-    same("the answer", ["stored 1"], new_room.ask(1, RETURNS[0]).out)
-    new_room.office.says("zhcount-office: `now` could not be renewed: zhcount status: zhcount: disk damaged")
-    new_room.held.unlink()
-    compare(new_room, RETURNS[:1])
-    new_room.stop()
-
-
 def test_killed_child(new_room):
     """of a child that is killed the log says so, and another one does its work"""
     new_room.start_held()
@@ -213,8 +199,8 @@ def test_told_twice():
 class StopInNow(Stop):
     """A stop of the office, or its child, before the call of this number in `now`, once that is there, while it shows another command."""
 
-    def __init__(self, preloaded, scripts, number):
-        super().__init__(preloaded, number)
+    def __init__(self, scripts, number):
+        super().__init__(number)
         self.scripts = scripts
 
     def counts(self, call):
@@ -223,7 +209,7 @@ class StopInNow(Stop):
         return is_of_now and is_ours and link_of(self.room) is not None
 
     def run(self):
-        with WatchedRoom(self.library, self.before, self.scripts) as room:
+        with WatchedRoom(self.before, self.scripts) as room:
             self.room = room
             room.start(is_awaited=False)
             self.until("now-0", lambda: link_of(room) == "now-0")
@@ -245,17 +231,16 @@ class StopInNow(Stop):
             self.room.start(is_awaited=False)
 
 
-def test_stopped_office(new_room, tmp_path):
+def test_stopped_office(new_room):
     """kill -9 of the office and of its child at each of their calls that make, change or remove something of `now`"""
-    watched = made_library(tmp_path), new_room.scripts
-    calls = StopInNow(*watched, 0).run().calls
+    calls = StopInNow(new_room.scripts, 0).run().calls
     that(f"calls: {calls}", calls > 15)
     with concurrent.futures.ThreadPoolExecutor(5) as pool:
-        list(pool.map(lambda number: StopInNow(*watched, number).run(), range(1, calls + 1)))
+        list(pool.map(lambda number: StopInNow(new_room.scripts, number).run(), range(1, calls + 1)))
 
 
 @pytest.mark.parametrize("call", [("open", "sums"), ("link", "now"), ("rename", "now")])
-def test_fault_while_it_is_shown(new_room, tmp_path, call):
+def test_fault_while_it_is_shown(new_room, call):
     """a fault among the calls that show new files leaves `now` as it was, or leads it to them: never to a folder that is gone"""
     faults = []
 
@@ -265,7 +250,7 @@ def test_fault_while_it_is_shown(new_room, tmp_path, call):
             return errno.ENOSPC
         return 0
 
-    with WatchedRoom(made_library(tmp_path), before, new_room.scripts) as room:
+    with WatchedRoom(before, new_room.scripts) as room:
         room.start()
         until("the first", lambda: link_of(room) == "now-0")
         desk = room.desk(1).talk(f"{RETURNS[0]} -> stored 1")

@@ -11,7 +11,7 @@ import pytest
 
 from places import TOP
 from processes import unread_by
-from room import SCRIPTS, let_in, same, that, until
+from room import SCRIPTS, let_in, same, stays, that, until
 
 
 # A line
@@ -64,16 +64,6 @@ def test_endless_line(room):
     desk.talk("show 1 1 -> none")
 
 
-def test_many_lines_at_once(room):
-    """lines that come in one piece are each answered, in their order"""
-    desk = room.desk(2)
-    lines = [f"return 1 1 {number} {number}" for number in range(1, 101)]
-    desk.write("".join(f"{it}\n" for it in lines))
-    same("the end", 0, desk.end())
-    same("the answers", [f"stored {number}" for number in range(1, 101)], desk.out)
-    room.check({2: lines})
-
-
 def test_sheet(room):
     """a sheet is shown whole, with its desk, also to a desk that the office answers after a stop; a new connection says its first line"""
     room.ask(1, "return 1 1 1 525", "return 2 1 1 240", "return 3 1 1 90")
@@ -83,22 +73,12 @@ def test_sheet(room):
     whole = wanted[2:-1].encode()
     noted = f"sheet provisional 3 {len(whole)} {hashlib.sha256(whole).hexdigest()}"
     same("what is noted", [("sheet", noted)], room.of_desk(3))
-    run_process = room.unanswered(desk, "sheet")
-    room.stop(signal.SIGKILL)
-    os.kill(run_process, signal.SIGKILL)
+    room.stops_at(desk, "sheet")
     room.start()
     same("the sheet after a stop", wanted, desk.answer("sheet") + "\n")
     desk.end()
     room.ask(3, end="").says("before: sheet: 3 sheet provisional 3")
     room.check({3: ["sheet", "sheet"]})
-
-
-def test_long_sheet(new_room):
-    """a sheet is shown whole that has more bytes than the socket takes at once"""
-    new_room.edits_answers("/^house/{s/^/XXXXXXXXXX/;" + "s/X*/&&/;" * 15 + "}")
-    new_room.start()
-    desk = new_room.desk(1).talk(*(f"return {municipality} 1 1 90 -> stored {municipality}" for municipality in (1, 2, 3)))
-    same("the length of its second line", 10 << 15, desk.send("sheet").split("\n")[1].count("X"))
 
 
 # Stops
@@ -135,10 +115,11 @@ def before(room, number):
 
 
 def test_run_is_killed(room):
-    """kill -9 of run, idle and at work: the office ends, and a new one goes on"""
+    """kill -9 of run, idle and at work: the office ends, which it notes with the reason, and a new one goes on"""
     desk = room.desk(1).talk("return 1 1 1 525 -> stored 1")
     os.kill(room.run_of_office(), signal.SIGKILL)
     room.ends(1, "zhcount run has ended: killed by signal 9")
+    same("the end", "zhcount run has ended: killed by signal 9", room.events()[-1].facts()["reason"])
     room.start()
     os.kill(room.unanswered(desk, "return 1 1 2 530"), signal.SIGKILL)
     room.ends(1, "unanswered: desk 1: return 1 1 2 530: the next start looks what became of it")
@@ -162,26 +143,10 @@ def test_stop_keeps_a_command(room):
     room.check({1: ["return 1 1 1 525"], 2: ["close 2"], 3: ["return 3 1 1 90"]})
 
 
-def test_untaken_line_of_a_desk_that_has_gone(room):
-    """a line that no office took is not sent by a later desk unasked: it is not there, and the next connection speaks of the one before"""
-    desk = room.desk(3).talk("return 3 1 1 90 -> stored 1")
-    room.stop()
-    desk.says("the office has ended: waiting; what is unanswered is kept")
-    desk.write("close 3\n")
-    time.sleep(0.5)
-    desk.kill()
-    desk.wait()
-    room.start()
-    desk = room.ask(3, "return 3 2 1 60")
-    desk.says("before: return 3 1 1 90: stored 1")
-    same("it was not closed", ["stored 2"], desk.out)
-    room.check({3: ["return 3 1 1 90", "return 3 2 1 60"]})
-
-
 @pytest.mark.parametrize("is_stored", [True, False], ids=["outlived", "lost"])
 def test_told_what_became_of_it(room, is_stored):
     """a new connection is told what became of the last line, whatever another desk has done to the list meanwhile"""
-    (room.outlived if is_stored else room.lost)(room.desk(1), "return 1 1 1 525")
+    room.lost(room.desk(1), "return 1 1 1 525", is_stored)
     room.start()
     same("the other", ["stored 2"], room.ask(2, "return 1 1 2 530").out)
     desk = room.ask(1, "show 1 1")
@@ -204,20 +169,6 @@ def test_told_although_the_office_ends(room):
     same("how often it is said", 1, desk.said().count("before: "))
     desk.end()
     room.check({1: ["return 1 1 1 525", "show 1 2"]})
-
-
-def test_each_line_is_answered_once(room):
-    """a desk that stays over many stops shows one answer to each line"""
-    desk, lines = room.desk(1), []
-    for number in range(1, 5):
-        lines.append(f"return 1 1 {number} {number}")
-        desk.write(f"{lines[-1]}\n")
-        time.sleep(0.02 * number)
-        room.restart()
-        same("the answer", f"stored {number}", desk.answer())
-    same("the end", 0, desk.end())
-    same("what it has shown", [f"stored {number}" for number in range(1, 5)], desk.out)
-    room.check({1: lines})
 
 
 @pytest.fixture
@@ -247,18 +198,32 @@ def test_stopped_office(hasty_room):
 
 
 def test_waits_for_an_office(hasty_room):
-    """a desk waits for an office, and for one that comes again"""
+    """a desk waits for an office, and for one that comes again, also while the folder is not there; a line that no office took is not sent
+    by a later desk unasked"""
     room = hasty_room
     desk = room.desk(1)
     desk.write("return 1 1 1 525\n")
     desk.says(f"no office is running in {room.folder} yet: waiting")
     room.start()
     same("the answer", "stored 1", desk.answer())
+    other = room.desk(3).talk("return 3 1 1 90 -> stored 2")
     room.stop()
-    desk.says("the office has ended: waiting; what is unanswered is kept")
+    room.folder.rename(f"{room.folder}.aside")
+    for it in (desk, other):
+        it.says("the office has ended: waiting; what is unanswered is kept")
+    desk.write("close 2\n")
+    other.write("close 3\n")
+    stays("they wait", lambda: not desk.has_ended() and not other.has_ended(), 1)
+    other.kill()
+    other.wait()
+    os.rename(f"{room.folder}.aside", room.folder)
     room.start()
     desk.says("the office is back, start 2")
+    same("the answer", "stored 3", desk.answer())
     same("the end of the desk", 0, desk.end())
+    other = room.ask(3, "return 3 2 1 60")
+    other.says("before: return 3 1 1 90: stored 2")
+    room.check({1: ["return 1 1 1 525", "close 2"], 3: ["return 3 1 1 90", "return 3 2 1 60"]})
 
 
 def test_desk_costs_nothing_while_it_waits(room):

@@ -9,7 +9,7 @@ import pytest
 
 from now import command_of
 from processes import Process, same, that, until
-from watch import WatchedRoom, made_library
+from watch import WatchedRoom
 
 
 @pytest.fixture
@@ -35,7 +35,7 @@ def test_nothing_is_overwritten(written):
     same("nothing else is left", [], [it for it in os.listdir(written.path) if it.startswith("new.disk.")])
 
 
-def test_whole_or_not_at_all(written, tmp_path):
+def test_whole_or_not_at_all(written):
     """the disk stands at its path once all of it is on the device, for its owner alone, and never before; its name is on the device at the
     end"""
     calls, sizes = [], []
@@ -45,7 +45,7 @@ def test_whole_or_not_at_all(written, tmp_path):
         if call.name == "link":
             sizes.append((size_of(call), room.new.exists()))
 
-    with WatchedRoom(made_library(tmp_path), before) as room:
+    with WatchedRoom(before) as room:
         room.new = room.path / "made/new.disk"
         room.new.parent.mkdir()
         shutil.copytree(written.folder, room.folder)
@@ -69,15 +69,6 @@ def size_of(call):
     return next(it.stat().st_size for it in pathlib.Path(f"/proc/{call.pid}/fd").iterdir() if os.readlink(it) == call.path)
 
 
-def test_programs_that_fail(written):
-    """where the program fails no disk is made, and it is said"""
-    for task in ("format", "export", "status"):
-        written.stands_in(f"[ $1 != {task} ] || {{ echo ill >&2; exit 1; }}")
-        that(f"{task} fails", f"not made: zhcount {task}: ill" in written.refused())
-    written.environment["ZHCOUNT"] = "/none"
-    that("one that is not there", "not made: /none can't be started" in written.refused())
-
-
 def test_volume_without_room(written):
     """a volume that takes no more leaves no disk, and no part of one"""
     words = written.script("zhcount-office", "--rebuild", written.folder, written.new)
@@ -88,11 +79,13 @@ def test_volume_without_room(written):
 
 
 def test_beside_an_office(new_room):
-    """while an office runs, replay and rebuild say who has the folder; after its end they work, and it can start again"""
+    """while an office runs, replay, rebuild and another office say who has the folder, and it goes on; after its end they work, and it can
+    start again"""
     new_room.start()
     same("the answer", ["stored 1"], new_room.ask(1, "return 1 1 1 525").out)
-    for words in (["--replay", new_room.folder], ["--rebuild", new_room.folder, new_room.path / "new.disk"]):
-        said = new_room.zhcount_office(*words, status=1)
+    for status, *words in ((1, "--replay", new_room.folder), (1, "--rebuild", new_room.folder, new_room.path / "new.disk"),
+                           (3, new_room.setup, new_room.disk, new_room.folder)):
+        said = new_room.zhcount_office(*words, status=status)
         who = f"another office, witness or replay has {new_room.folder}: zhcount-office, process {new_room.office.process.pid} of"
         that(f"{words[0]}: {said}", who in said)
     new_room.ask(1, "return 1 2 1 300")

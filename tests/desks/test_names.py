@@ -91,10 +91,7 @@ def test_answer_after_a_stop(room):
     desk = room.desk(3)
     desk.talk("return 3 1 1 90 -> stored 1")
     warning = "municipality 3, W: 2 of 3 returns missing, 1 entered by one desk alone"
-    run_process = room.unanswered(desk, "close 3")
-    desk.says(warning)
-    room.stop(signal.SIGKILL)
-    os.kill(run_process, signal.SIGKILL)
+    room.stops_at(desk, "close 3").says(warning)
     room.start()
     same("the answer", "stored 2", desk.answer())
     desk.end()

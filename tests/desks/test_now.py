@@ -132,25 +132,15 @@ def test_a_hundred_thousand_lines():
         night.stop()
 
 
-def test_names_with_commas(new_room):
-    """names that need quotation marks have them"""
-    new_room.setup.write_text(new_room.setup.read_text().replace('name = "N"', 'name = "N, \\"n\\""'))
-    new_room.disk.unlink()
-    new_room.zhcount("format")
-    new_room.start()
-    same("the answer", ["stored 1"], new_room.ask(1, RETURNS[0]).out)
-    same("the row", UNCONFIRMED + '1,1,1,525,1,"N, ""n""",A\n', (new_room.shows(1) / "unconfirmed").read_text())
-    new_room.stop()
-
-
 # Who has entered what
 
 
 def test_unconfirmed_returns(new_room):
-    """what one desk alone has entered is unconfirmed, until another desk sends the same"""
-    loaded = new_room.path / "loaded.csv"
-    loaded.write_text("municipality,list,number,votes\n3,1,1,90\n3,2,1,60\n")
-    same("what is loaded", "stored 1\n", new_room.zhcount("load", "--csv", loaded))
+    """what one desk alone has entered is unconfirmed, until another desk sends the same; a name that needs quotation marks has them"""
+    new_room.setup.write_text(new_room.setup.read_text().replace('name = "N"', 'name = "N, \\"n\\""'))
+    new_room.disk.unlink()
+    new_room.zhcount("format")
+    same("what is loaded", "stored 1\n", new_room.load("3,1,1,90", "3,2,1,60"))
     new_room.zhcount_office("--take", new_room.setup, new_room.disk, new_room.folder)
     new_room.start()
     desks = {it: new_room.desk(it) for it in range(1, 8)}
@@ -163,13 +153,13 @@ def test_unconfirmed_returns(new_room):
             (7, "open -> held 0", "row 2 2 1 330 -> held 1", "drop -> dropped 1"),
             (1, "withdraw 2 3 1 -> stored 6"), (3, "return 3 1 1 90 -> same")]:
         desks[desk].talk(*exchanges)
-    rows = ["1,1,1,525,1,N,A\n", "1,3,1,175,1,N,C\n", "2,2,1,330,4,M,B\n", "2,3,1,withdrawn,1,M,C\n", "3,2,1,60,-,W,B\n"]
+    rows = ['1,1,1,525,1,"N, ""n""",A\n', '1,3,1,175,1,"N, ""n""",C\n', "2,2,1,330,4,M,B\n", "2,3,1,withdrawn,1,M,C\n", "3,2,1,60,-,W,B\n"]
     shows_unconfirmed(new_room, 6, rows)
     for desk, line in [(2, "return 1 1 1 525"), (3, "return 3 2 1 60"), (4, "withdraw 2 3 1")]:
         desks[desk].talk(f"{line} -> same")
     shows_unconfirmed(new_room, 6, rows[1:3])
     desks[6].talk("row 1 1 2 530 -> held 2", "commit -> stored 7")  # one row of the batch is new
-    shows_unconfirmed(new_room, 7, ["1,1,2,530,6,N,A\n", rows[1]])
+    shows_unconfirmed(new_room, 7, ['1,1,2,530,6,"N, ""n""",A\n', rows[1]])
     desks[2].talk("return 1 1 2 530 -> same")
     shows_unconfirmed(new_room, 7, rows[1:2])
     new_room.stop()

@@ -4,6 +4,7 @@ import contextlib
 import hashlib
 import os
 import re
+import shlex
 import shutil
 import signal
 import stat
@@ -62,13 +63,6 @@ def test_what_is_noted(room):
         that(f"the time of {it}", re.fullmatch(r"\d{4}-\d\d-\d\dT\d\d:\d\d:\d\d\.\d{3}[+-]\d\d:\d\d", it.at))
 
 
-def test_end_that_is_no_clean_one(room):
-    """an end for another reason than a signal is noted with it"""
-    os.kill(room.run_of_office(), signal.SIGKILL)
-    room.ends(1)
-    same("the end", "zhcount run has ended: killed by signal 9", room.events()[-1].facts()["reason"])
-
-
 def test_clean_end(room):
     """after a clean end the folder has the log alone, whole, for its owner; every line is answered"""
     same("the answer", ["stored 1"], room.ask(1, FIRST).out)
@@ -86,13 +80,16 @@ def test_program_that_is_not_there(new_room):
     new_room.refuses(f"{new_room.path}/none can't be started: No such file or directory", status=1)
 
 
-@pytest.mark.parametrize("words", [[], ["a"], ["a", "b", "c", "d"], ["--none", "a", "b", "c"], ["--witness", "", "a", "b", "c"],
-                                   ["--witness-required", "a", "b", "c"], ["--replay"], ["--rebuild", "a"], ["--replay", "a", "--rebuild"],
-                                   ["--totals", "t", "--replay", "a"]])
+@pytest.mark.parametrize("words", [
+    *(f"zhcount-office {it}" for it in ("", "a", "a b c d", "--none a b c", "--witness '' a b c", "--witness-required a b c", "--replay",
+                                        "--rebuild a", "--replay a --rebuild", "--totals t --replay a")),
+    *(f"zhcount-desk {it}" for it in ("", "0", "9", "x", "1 a b", "--none")),
+    *(f"zhcount-witness {it}" for it in ("", "a b", "--else a"))])
 def test_arguments(words, tmp_path):
     """arguments that are none have status 2, and nothing is made"""
-    ran = subprocess.run([SCRIPTS / "zhcount-office", *words], cwd=tmp_path, capture_output=True, text=True)
-    same(f"the status: {ran.stderr}", (2, []), (ran.returncode, os.listdir(tmp_path)))
+    script, *more = shlex.split(words)
+    ran = subprocess.run([SCRIPTS / script, *more], cwd=tmp_path, capture_output=True, text=True)
+    same(f"the status of {words}: {ran.stderr}", (2, []), (ran.returncode, os.listdir(tmp_path)))
 
 
 # Signals, and the office's own log
@@ -161,16 +158,6 @@ def test_log_that_takes_nothing(new_room):
         same(f"the answer with {before}", ["none"], new_room.ask(1, "show 1 1").out)
         same(f"the end with {before}", 0, new_room.stop())
     os.close(log)
-
-
-def test_another_office(room):
-    """a second office of a folder is refused, and the first goes on"""
-    same("the answer", ["stored 1"], room.ask(1, FIRST).out)
-    first = room.office
-    room.refuses(f"another office, witness or replay has {room.folder}")
-    same("the first goes on", ["shows 1 525"], room.ask(1, "show 1 1").out)
-    room.office = first
-    room.check()
 
 
 def test_start_beside_a_replay(room):

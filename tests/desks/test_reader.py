@@ -118,11 +118,6 @@ def returned(chance, count):
     return lines
 
 
-def kept():
-    """Images that the cases keep."""
-    return disks.kept_images()
-
-
 def empty():
     """Fresh disks, and what is not formatted."""
     setups = [REHEARSAL, SMALL, WIDEST, (ZURICH / "setup.toml").read_text(),
@@ -261,10 +256,10 @@ def setups():
 
 # The outcomes of each that there have to be.
 DISKS = {
-    kept: {"exported", "disk size"}, empty: {"exported", "disk blank", "disk size"}, thousands: {"exported"}, widest: {"exported"},
-    named: {"exported", "disk blank", "disk damaged", "disk differs"}, damaged: {"exported", "disk blank", "disk damaged", "disk differs"},
-    records: {"exported", "disk damaged"}, odd: {"exported", "disk damaged", "disk blank"},
-    setups: {"exported", "disk damaged", "disk differs"},
+    disks.kept_images: {"exported", "disk size"}, empty: {"exported", "disk blank", "disk size"}, thousands: {"exported"},
+    widest: {"exported"}, named: {"exported", "disk blank", "disk damaged", "disk differs"},
+    damaged: {"exported", "disk blank", "disk damaged", "disk differs"}, records: {"exported", "disk damaged"},
+    odd: {"exported", "disk damaged", "disk blank"}, setups: {"exported", "disk damaged", "disk differs"},
 }
 
 

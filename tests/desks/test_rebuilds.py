@@ -80,8 +80,7 @@ def test_export_of_an_image(night):
     loaded = next(it for it in night.log.events if it.kind == "loaded")
     for old, new in [("3,1,1,90", "3,1,1,91"), ('"closed": []', '"closed": ["2"]'), ('"commands": 2', '"commands": 3')]:
         night.log.edited(loaded.number, old, new).put()
-        for said in (night.refused(), night.replay(status=1)):
-            that(f"{new}: {said}", "it is not the disk of this log" in said)
+        night.both_refuse("it is not the disk of this log")
 
 
 def test_without_memory(night):
@@ -137,9 +136,8 @@ def lines_by_chance(night, chance):
     """Lines of four desks, which mostly make sense one after the other."""
     count, lines = copy.deepcopy(night.count), []
     for _ in range(chance.randint(1, 26)):
-        desk, line = chance.randint(1, 4), random_line(chance, count)
-        count.answer(desk, line)
-        lines.append(f"{desk} {line}")
+        lines.append(f"{chance.randint(1, 4)} {random_line(chance, count)}")
+        count.answer(lines[-1])
     return lines
 
 
@@ -168,5 +166,4 @@ def test_a_changed_log_is_refused(night):
         other = Written(night.folder)
         other.events = [it if it.number != 4 else type(it)(it.number, it.at, it.kind, it.desk, it.turn, changed, it.sum) for it in events]
         other.put()
-        for said in (night.refused(), night.replay(status=1)):
-            that(f"it is said: {said}", "event 4 does not follow the one before it: somebody has changed the log" in said)
+        night.both_refuse("event 4 does not follow the one before it: somebody has changed the log")

@@ -43,22 +43,14 @@ def test_the_same(written):
     ("line", "withdraw 3 1 2", "3 1 2", "3 1 3", "desk 1: withdraw 3 1 3: noted is 'stored 4', and here 'refused gap'"),
     ("start", '"commands": 5', '": 5', '": 9', "start: commands: noted is '9', and here '5'"),
     ("ended", '"commands": 7', '": 7', '": 8', "ended: commands: noted is '8', and here '7'"),
+    ("start", '"commands": 5', '"export": "', '"export": "0', "start: export: noted is '0"),
+    ("ended", '"commands": 7', '"export": "', '"export": "0', "ended: export: noted is '0"),
 ])
 def test_a_difference(written, kind, text, old, new, wanted):
     """another answer, line, sheet, or state at a start or an end is seen, where each sum follows; the first place of it is said"""
     event = event_of(written, kind, text)
     written.log.edited(event.number, old, new).put()
-    for said in (written.replay(status=1), written.refused()):
-        that(f"{wanted}: {said}", wanted in said)
-
-
-def test_another_export(written):
-    """an export that is another one at a start, or at the end, is seen, though the number of commands is the same"""
-    for kind, place in (("start", 1), ("ended", 0)):
-        event = [it for it in written.log.events if it.kind == kind][place]
-        written.log.edited(event.number, event.facts()["export"], "0" * 64).put()
-        for said in (written.replay(status=1), written.refused()):
-            that(f"of the {kind}: {said}", f"event {event.number}, {kind}: export: noted is '{'0' * 64}', and here '" in said)
+    written.both_refuse(wanted)
 
 
 def test_end_that_could_not_look(written):
@@ -92,34 +84,29 @@ def test_dropped_batch(night):
     that("a replay", "the same: " in night.replay())
 
 
-def test_run_ends_early(night):
-    """a run that ends before its last answer, or with a fault, is one"""
+def test_programs_that_fail(night):
+    """a run that ends before its last answer is a fault, as is a program that fails, or is not there"""
     night.begin(["1 return 1 1 1 525", "2 return 2 1 1 240"])
     night.put()
     two_lines = f"for line in 1 2; do IFS= read -r line; printf '%s\\n' \"$line\"; done | '{PROGRAM}' \"$@\""
-    for script, wanted in [("[ $1 != run ] || { " + two_lines + "; exit; }", "zhcount run has ended"),
-                           ("[ $1 != run ] || { echo ill >&2; exit 1; }", "ill"), ("[ $1 != format ] || { echo ill >&2; exit 1; }", "ill")]:
-        night.stands_in(script)
-        for said in (night.replay(status=1), night.refused()):
-            that(f"{wanted}: {said}", wanted in said)
+    for task, does, wanted in [("run", f"{two_lines}; exit", "zhcount run has ended"), ("run", "echo ill >&2; exit 1", "ill"),
+                               *((it, "echo ill >&2; exit 1", f"zhcount {it}: ill") for it in ("format", "export", "status"))]:
+        night.stands_in(f"[ $1 != {task} ] || {{ {does}; }}")
+        night.both_refuse(wanted)
     night.environment["ZHCOUNT"] = "/none"
-    that("one that is not there", "/none can't be started" in night.replay(status=1))
+    night.both_refuse("/none can't be started")
 
 
 def test_nothing_to_run(night):
     """a folder without a log, one of an older zhcount, and a log without a start are said to be so"""
     night.folder.mkdir(0o2750)
     night.folder.chmod(0o2750)
-    for said in (night.replay(status=1), night.refused()):
-        that(f"no log: {said}", f"{night.folder} has no night.db" in said)
+    night.both_refuse(f"{night.folder} has no night.db")
     (night.folder / "protocol").touch()
-    for said in (night.replay(status=1), night.refused()):
-        that(f"an older one: {said}", f"{night.folder} has the transcripts of an older zhcount" in said)
+    night.both_refuse(f"{night.folder} has the transcripts of an older zhcount")
     (night.folder / "protocol").unlink()
     night.log.events.clear()
     night.put()
-    for said in (night.replay(status=1), night.refused()):
-        that(f"no start: {said}", "has no start yet" in said)
+    night.both_refuse("has no start yet")
     night.folder.rename(night.path / "moved")
-    for said in (night.replay(status=1), night.refused()):
-        that(f"no folder: {said}", "night.db" in said or "No such file" in said)
+    night.both_refuse("night.db")

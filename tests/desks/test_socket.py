@@ -7,11 +7,10 @@ import random
 import re
 import signal
 import socket
-import subprocess
 import time
 
 from now import NEVER, QuickRoom
-from processes import SECONDS
+from processes import SECONDS, Desk
 from room import running, same, that, until
 
 
@@ -118,10 +117,11 @@ def test_nobody_is_disturbed(room):
 
 
 def test_long_sheet_that_waits(new_room):
-    """who reads a sheet late that has more bytes than the socket takes at once gets all of it, and no other desk waits for that"""
+    """who reads a sheet late that has more bytes than the socket takes at once gets all of it, and no other desk waits for that; a desk
+    shows it whole"""
     new_room.edits_answers("/^house/{s/^/XXXXXXXXXX/;" + "s/X*/&&/;" * 15 + "}")
     new_room.start()
-    new_room.desk(1).talk(*(f"return {municipality} 1 1 90 -> stored {municipality}" for municipality in (1, 2, 3)))
+    desk = new_room.desk(1).talk(*(f"return {municipality} 1 1 90 -> stored {municipality}" for municipality in (1, 2, 3)))
     got = b""
     with socket.socket(socket.AF_UNIX) as at:
         at.connect(str(new_room.folder / "desk"))
@@ -135,29 +135,20 @@ def test_long_sheet_that_waits(new_room):
             while not got.endswith(b"\n"):
                 got += at.recv(65536)
     same("the length of its second line", 10 << 15, got.count(b"X"))
+    same("the length as it is shown", 10 << 15, desk.send("sheet").split("\n")[1].count("X"))
     new_room.stop()
 
 
-def test_socket_that_a_stop_left(room):
-    """the socket of an office that was killed is replaced, and a clean end leaves none"""
-    room.ask(1, "show 1 1")
-    room.stop(signal.SIGKILL)
-    that("it is left", (room.folder / "desk").is_socket())
-    room.start()
-    same("the answer", ["none"], room.ask(1, "show 1 1").out)
-    room.stop()
-    same("what is there", ["night.db"], sorted(it for it in os.listdir(room.folder) if not it.startswith("now")))
-
-
 def test_long_path(new_room):
-    """a folder whose path is longer than a socket's may be has its socket, whoever names it how"""
+    """a folder whose path is longer than a socket's may be has its socket, whoever names it how, also after a stop"""
     new_room.folder = new_room.path / ("long" * 30) / ("longer" * 20)
     new_room.folder.parent.mkdir()
     new_room.start()
     same("the answer", ["stored 1"], new_room.ask(1, "return 1 1 1 525").out)
-    words = new_room.script("zhcount-desk", "1", new_room.folder.name)
-    ran = subprocess.run(words, input="show 1 1\n", capture_output=True, text=True, cwd=new_room.folder.parent)
-    same(f"by a relative path: {ran.stderr}", "shows 1 525\n", ran.stdout)
+    words = ["env", "-C", new_room.folder.parent, *new_room.script("zhcount-desk", "1", new_room.folder.name)]
+    desk = new_room.process(Desk, words).talk("show 1 1 -> shows 1 525")
+    new_room.restart()
+    desk.talk("show 1 2 -> none").end()
     new_room.check()
 
 

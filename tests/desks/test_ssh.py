@@ -19,9 +19,8 @@ import time
 import pytest
 
 from canton import Canton, Chance
+from counting import counted
 from logs import check_chain
-from logs import lines as noted_lines
-from office import Office
 from processes import HAS_ENDED, SECONDS, Desk, Process, same, that, until
 from room import Room, running
 from witnessed import Witnessed, lines_at, night_that_is_lost, own_of
@@ -131,21 +130,6 @@ class Client:
         same("the end of a desk", 0, self.desk.end())
 
 
-def compare_with_the_manual(room, canton):
-    """Each line has its answer, which is that of the manual, in the order of the lines, over all starts. What is held then."""
-    office = Office(canton)
-    for it in noted_lines(room.folder):
-        if it.text.startswith("last "):
-            continue
-        wanted, answer = office.answer(f"{it.desk} {it.text}")[2:], it.answer or "none at all"
-        if wanted.startswith("sheet ") and re.match(f"{wanted} |refused (exhausted|tied)", answer):
-            continue  # seats are proved, and not in this model
-        if answer != wanted:
-            raise AssertionError(f"start {it.start}, desk {it.desk}: {it.text}: {answer}, and not {wanted}")
-    rows = [f"{m},{g},{n},{'withdrawn' if v is None else v}" for (m, g), (n, v) in sorted(office.held.items())]
-    return "".join(f"{it}\n" for it in ["municipality,list,number,votes", *rows])
-
-
 def test_side_by_side():
     """eight desks over ssh, two connections cut in the middle of a line, the office killed twice"""
     canton = Canton(Chance(2027))
@@ -163,8 +147,8 @@ def test_side_by_side():
         same("the end of the office", 0, room.stop())
         same("desks whose connection was cut", [*CUT], [desk for desk, it in clients.items() if "before: " in it.desk.said()])
         for desk, it in clients.items():
-            same(f"the lines of desk {desk}", it.sent, [line.text for line in noted_lines(room.folder, desk)])
-        same("what is held", compare_with_the_manual(room, canton), room.zhcount("export"))
+            same(f"the lines of desk {desk}", it.sent, [line for line, _ in room.of_desk(desk)])
+        same("what is held", counted(room.events(), canton).export(), room.zhcount("export"))
         check_chain(room.folder)
         that("a replay", "the same: " in room.replay())
 

@@ -1,8 +1,5 @@
 """What a start decides: what became of the line without an answer, and whether the disk is that of the log. Each case is made by stops at
 chosen moments, and by hand."""
-import os
-import signal
-
 import pytest
 
 from room import same, that, until
@@ -20,12 +17,7 @@ COMMANDS = ("return", "withdraw", "close", "reopen", "commit")
 
 def stopped(room, line, is_stored):
     """A night that ends by kill -9 of the office while a line has no answer, which the run got to store, or not. The desk stays."""
-    desk = room.desk(1).talk(*BEFORE)
-    run_process = room.unanswered(desk, line)
-    room.stop(signal.SIGKILL)
-    os.kill(run_process, signal.SIGCONT if is_stored else signal.SIGKILL)
-    until("the run has ended", lambda: not os.path.exists(f"/proc/{run_process}"))
-    return desk
+    return room.stops_at(room.desk(1).talk(*BEFORE), line, is_stored)
 
 
 def end(room, desk):
@@ -66,13 +58,18 @@ def test_line_after_a_load_by_hand(room, kind):
     same("the export is that of the disk made anew", room.zhcount("export"), room.rebuilt())
 
 
-def test_stored_and_loaded(room):
-    """a line that was stored, after which others came by hand, is not given as though it were lost: the disk is noted, and it is `same`"""
-    desk = stopped(room, "return 1 1 2 530", True)
-    room.load("1,3,1,77")
+@pytest.mark.parametrize("is_stored, by_hand, answer, count", [
+    (True, lambda room: room.load("1,3,1,77"), "same", "2 commands"),
+    (False, lambda room: room.by_hand("return 1 1 2 531"), "refused conflict", "1 command"),
+], ids=["stored, and more loaded", "lost, and another one typed"])
+def test_not_the_lines_command(room, is_stored, by_hand, answer, count):
+    """a line that was stored, after which others came by hand, is not given as though it were lost; one command by hand whose effect is not
+    the line's is not taken for it: the disk is noted, and then the line is given"""
+    desk = stopped(room, "return 1 1 2 530", is_stored)
+    by_hand(room)
     room.start()
-    same("the answer", "same", desk.answer())
-    room.office.says("2 commands came in by hand before this start")
+    same("the answer", answer, desk.answer())
+    room.office.says(f"{count} came in by hand before this start")
     desk.end()
     room.stop()
     same("the export is that of the disk made anew", room.zhcount("export"), room.rebuilt())
@@ -96,16 +93,6 @@ def test_by_hand(room, lines):
     same("its status", wanted[1], room.zhcount("status", disk=room.path / "new.disk"))
 
 
-def test_same_contents_by_other_commands(room):
-    """one command more, by hand, whose effect is not the line's is not taken for the line's"""
-    desk = stopped(room, "return 1 1 2 530", False)
-    room.by_hand("return 1 1 2 531")
-    room.start()
-    same("the answer", "refused conflict", desk.answer())
-    room.office.says("1 command came in by hand before this start")
-    desk.end()
-
-
 def test_closing_that_another_decided(room):
     """a closing that has no answer is given before any other desk, and once: what another desk does then stays"""
     desk = stopped(room, "close 1", False)
@@ -113,7 +100,7 @@ def test_closing_that_another_decided(room):
     desk.wait()
     room.start()
     same("the other", ["stored 5", "none"], room.ask(2, "reopen 1", "show 3 1").out)
-    room.ask(1, "drop").says("before: close 1: stored 4")
+    room.ask(1, "drop").says("before: close 1: stored 4", "a batch is open; its rows: 2; 'commit' or 'drop' it")
     room.restart()
     same("the municipality stays open", ["stored 6"], room.ask(2, "return 1 1 2 530").out)
     room.check()
@@ -121,9 +108,7 @@ def test_closing_that_another_decided(room):
 
 def test_no_answer_before_the_start(room):
     """no desk is let in before the line without an answer has one"""
-    run_process = room.unanswered(room.desk(1), "return 1 1 1 525")
-    room.stop(signal.SIGKILL)
-    os.kill(run_process, signal.SIGKILL)
+    room.stops_at(room.desk(1), "return 1 1 1 525")
     flag = room.path / "flag"
     flag.touch()
     room.stands_in(f"[ $1 = run ] && while [ -e '{flag}' ]; do sleep 0.02; done")

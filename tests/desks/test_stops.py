@@ -5,7 +5,6 @@ made anew and the export have to agree, and each line has its one answer.
 
 `make test` takes of each kind of call the first and the last: at a start, among lines, at an end. `slow` takes all."""
 import concurrent.futures
-import copy
 import errno
 import functools
 import os
@@ -22,7 +21,7 @@ import pytest
 from logs import events
 from room import Room, same, that, until
 from two_desks import Night
-from watch import ApartRoom, Device, Stop, WatchedRoom, made_library, restore
+from watch import ApartRoom, Device, Stop, WatchedRoom, restore
 
 # Each has more processes than there are processors, so they come one after the other.
 pytestmark = [pytest.mark.long, pytest.mark.xdist_group("stops")]
@@ -30,12 +29,6 @@ ALL = pytest.mark.parametrize("is_all", [False, pytest.param(True, marks=pytest.
 AT_ONCE = 2 * (os.cpu_count() or 1)  # nights; for a part of its time a night waits
 FAULTS = {"write": errno.ENOSPC, "truncate": errno.EIO, "sync": errno.EIO, "open": errno.ENOSPC, "make": errno.ENOSPC,
           "chmod": errno.EIO, "rename": errno.EIO, "link": errno.EIO, "unlink": errno.EIO}
-
-
-@pytest.fixture
-def library(tmp_path):
-    """What is preloaded."""
-    return made_library(tmp_path)
 
 
 def is_of_now(call):
@@ -92,8 +85,8 @@ class StopOf(Stop):
 
     statuses: Tuple[int, ...] = (-signal.SIGKILL,)
 
-    def __init__(self, preloaded, who, number):
-        super().__init__(preloaded, number)
+    def __init__(self, who, number):
+        super().__init__(number)
         self.who, self.last, self.kinds = who, None, []
 
     def counts(self, call):
@@ -106,7 +99,7 @@ class StopOf(Stop):
         return True
 
     def run(self):
-        with WatchedRoom(self.library, self.before) as room:
+        with WatchedRoom(self.before) as room:
             self.room = room.with_witness() if self.who == "witness" else room
             self.night = Night(room, may_end=self.statuses)
             has_its_end(self.night, lambda: f"{self.who} before call {self.number}, {self.call}")
@@ -116,17 +109,17 @@ class StopOf(Stop):
         return self
 
     @classmethod
-    def each(cls, preloaded, who, is_all, least):
-        kinds = cls(preloaded, who, 0).run().kinds
+    def each(cls, who, is_all, least):
+        kinds = cls(who, 0).run().kinds
         that(f"calls of {who}: {len(kinds)}", len(kinds) > least)
-        each([cls(preloaded, who, number).run for number in chosen(kinds, is_all)])
+        each([cls(who, number).run for number in chosen(kinds, is_all)])
 
 
 @ALL
 @pytest.mark.parametrize("who, least", [("office", 80), ("desk 1", 5), ("witness", 20)])
-def test_stopped(who, least, is_all, library):
+def test_stopped(who, least, is_all):
     """kill -9 of the office, of a desk or of the witness, at its calls"""
-    StopOf.each(library, who, is_all, least)
+    StopOf.each(who, is_all, least)
 
 
 class FaultOf(StopOf):
@@ -160,17 +153,17 @@ class FaultOf(StopOf):
 
 
 @ALL
-def test_failed(is_all, library):
+def test_failed(is_all):
     """a call of the office fails once, as on a full volume or a broken device: it ends with 3, or goes on, and nothing is lost"""
-    FaultOf.each(library, "office", is_all, 40)
+    FaultOf.each("office", is_all, 40)
 
 
 class Recorder:
     """A night in which nothing is stopped, with the power cuts that there may be: what each leaves, how far the night is, its title, and
     what the desks were shown; by the kind of the call."""
 
-    def __init__(self, preloaded):
-        self.library, self.chance, self.cuts, self.kinds = preloaded, random.Random(86), {}, []
+    def __init__(self):
+        self.chance, self.cuts, self.kinds = random.Random(86), {}, []
 
     def before(self, call):
         night = self.night
@@ -178,15 +171,15 @@ class Recorder:
         if is_own and call.name != "look" and not is_of_now(call):
             for image, what in zip(self.device.images(self.chance), ("names and bytes as synced", "bytes as synced", "a write is torn")):
                 title = f"a cut before {call.who}: {call.name} {call.path}, in line {night.done + 1}, {what}"
-                key = image, night.done, repr(night.typed)
+                key = image, night.done, repr(night.typed())
                 if key not in self.cuts:
-                    self.cuts[key] = title, copy.deepcopy(night.typed)
+                    self.cuts[key] = title, night.typed()
                     self.kinds.append((call.who, call.name, call.file, night.stage(), what))
         if call.name == "sync":
             self.device.sync(call.path)
 
     def run(self):
-        with WatchedRoom(self.library, self.before) as room:
+        with WatchedRoom(self.before) as room:
             self.path, self.device, self.night = room.path, Device(room.path), Night(room)
             has_its_end(self.night, lambda: "without a cut")
 
@@ -197,9 +190,9 @@ class Recorder:
 
 
 @ALL
-def test_power_is_cut(is_all, library):
+def test_power_is_cut(is_all):
     """a power cut before calls of the office and of the desks: what was shown is held, of the log and of the disk"""
-    recorder = Recorder(library)
+    recorder = Recorder()
     recorder.run()
     that(f"cuts: {len(recorder.cuts)}", len(recorder.cuts) > 80)
     cuts = [(*key[:2], *cut) for key, cut in recorder.cuts.items()]
@@ -234,7 +227,7 @@ class Sent(StopOf):
 
     def run(self):
         self.unsynced = []
-        with WatchedRoom(self.library, self.before) as room:
+        with WatchedRoom(self.before) as room:
             self.room, self.device, self.night = room.with_witness(), Device(room.path), Night(room)
             has_its_end(self.night, lambda: f"{self.who} before sync {self.number}")
         same(f"what was sent, and is not on the device, after a stop of {self.who} before sync {self.number}", [], self.unsynced[:1])
@@ -243,6 +236,6 @@ class Sent(StopOf):
 
 @ALL
 @pytest.mark.parametrize("who", ["office", "witness"])
-def test_sent_once_it_is_synced(who, is_all, library):
+def test_sent_once_it_is_synced(who, is_all):
     """office and witness tell nobody of an event that is not on their device, also where a process died before it had synced it"""
-    Sent.each(library, who, is_all, 10)
+    Sent.each(who, is_all, 10)

@@ -12,7 +12,7 @@ from processes import Desk
 from quiet import QuietRoom
 from room import running, same, that, until
 from test_socket import HELLO, line_of
-from watch import Stop, WatchedRoom, made_library
+from watch import Stop, WatchedRoom
 
 NAMES = "municipality,list,number,votes\n"
 TABLE = NAMES + "1,1,1,525\n1,2,1,300\n3,1,1,90\n"
@@ -215,7 +215,7 @@ class StopOf(Stop):
     """kill -9 of a desk or of the office before its call of this number, from now on."""
 
     def __init__(self, room, who, number):
-        super().__init__(room.library, number)
+        super().__init__(number)
         self.room, self.who, room.before = room, who, self.before
 
     def counts(self, call):
@@ -236,8 +236,8 @@ def versions(number):
 
 
 @pytest.fixture
-def watched_room(tmp_path):
-    with WatchedRoom(made_library(tmp_path), lambda call: 0) as room:
+def watched_room():
+    with WatchedRoom(lambda call: 0) as room:
         room.start()
         yield room
 

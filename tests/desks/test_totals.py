@@ -44,4 +44,5 @@ def test_no_file(tmp_path):
     same("a long one", ({}, ["FILE can't be read: it has more than 1048576 bytes"]), read(tmp_path / "long"))
     os.mkfifo(tmp_path / "pipe")
     same("none", ({}, ["FILE can't be read: [Errno 2] No such file or directory: 'FILE'"]), read(tmp_path / "none"))
+    same("a folder", ({}, ["FILE can't be read: [Errno 21] Is a directory: 'FILE'"]), read(tmp_path))
     same("a pipe", ({}, ["FILE can't be read: it is not a file"]), read(tmp_path / "pipe"))

@@ -11,7 +11,7 @@ import time
 import pytest
 
 from canton import Canton, Chance
-from logs import check_chain, events, last_sum
+from logs import check_chain, last_sum
 from places import TOP
 from processes import same, stays, that, until
 from room import Room, running
@@ -35,40 +35,36 @@ def test_mirrored(room):
     same("the export", room.zhcount("export"), room.zhcount("export", disk=room.rebuilt_from_witness()))
 
 
-def test_nothing_before():
-    """no answer is shown before the witness has it; a silent one is waited for"""
-    with running(Witnessed("--witness-required")) as room:
-        desks = [room.desk(number).talk("show 1 1 -> none") for number in (1, 2)]
-        room.has_all()
-        room.signal(signal.SIGSTOP)
-        desks[0].write("return 1 1 1 525\n")
-        until("a line is answered on the disk", lambda: room.events()[-1].text == "stored 1")
-        desks[1].write("return 2 1 1 240\n")
-        stays("no answer is shown", lambda: len(desks[0].out) == len(desks[1].out) == 1, 2)
-        room.signal(signal.SIGCONT)
-        same("the answers", ["stored 1", "stored 2"], [it.answer() for it in desks])
-        room.check()
-
-
 def test_goes_on_without(room):
-    """without its witness the office goes on, and says so; the witness then gets what it lacks"""
+    """without its witness the office goes on, and says so, to a new connection before it shows an answer; the witness then gets what it
+    lacks. An end without it is noted"""
     desk = room.desk(1).talk("return 1 1 1 525 -> stored 1")
     room.lose_witness()
     desk.talk("return 1 1 2 530 -> stored 2")
     room.office.says("no witness since")
     that(f"the folder says it: {room.said_of_it()}", room.said_of_it().startswith("no witness since"))
     desk.talk("show 2 1 -> none").says("no witness since")
+    late = room.desk(2)
+    late.says("no witness since")
+    same("what it was shown", [], late.out)
     room.away.unlink()
     room.has_all()
     until("the log says it", lambda: room.office.said().count("the witness has been connected since") == 2)
     until("the folder too", lambda: room.said_of_it().startswith("the witness has been connected since"))
     desk.talk("return 2 1 1 240 -> stored 3").says("the witness has been connected since")
+    room.has_all()
+    room.lose_witness()
+    until("it is away", lambda: room.said_of_it().startswith("no witness since"))
+    same("the end", 0, room.stop())
+    same("the last event", ("ended", "told to"), (room.events()[-1].kind, room.events()[-1].facts()["reason"]))
+    room.away.unlink()
+    room.start()
     room.check()
 
 
 def test_waits_for_it():
-    """where the witness is required no answer is shown while it is away"""
-    with running(Witnessed("--witness-required")) as room:
+    """where the witness is required no answer is shown while it is away; at an end to nobody, and its desk is told by the next start"""
+    with running(Witnessed("--witness-required").measures(seconds=20)) as room:
         desk = room.desk(1).talk("return 1 1 1 525 -> stored 1")
         room.lose_witness()
         room.office.says("waiting for the witness since")
@@ -78,6 +74,16 @@ def test_waits_for_it():
         that("the folder says it", room.said_of_it().startswith("waiting for the witness since"))
         room.away.unlink()
         same("the answer", "stored 2", desk.answer())
+        room.lose_witness()
+        until("it is away", lambda: room.said_of_it().startswith("waiting for the witness since"))
+        room.note(desk, "return 1 1 3 540")
+        until("it is on the disk", lambda: room.events()[-1].text == "stored 3")
+        same("the end", 0, room.stop())
+        room.office.says("unanswered: desk 1: return 1 1 3 540: the next start looks")
+        same("what desk 1 was shown", ["stored 1", "stored 2"], desk.out)
+        room.away.unlink()
+        room.start()
+        same("the answer", "stored 3", desk.answer())
         room.check()
 
 
@@ -162,15 +168,6 @@ def test_slow_start(new_room):
     new_room.stop()
 
 
-def test_told_at_once(new_room):
-    """a new connection is told that there is no witness before it is shown an answer"""
-    new_room.away.touch()
-    new_room.start().says("no witness since")
-    desk = new_room.desk(1)
-    desk.says("no witness since")
-    same("what it was shown", [], desk.out)
-
-
 def test_start_waits_for_it():
     """where the witness is required no desk sees anything of a start before the witness has that too"""
     with Witnessed("--witness-required") as room:
@@ -185,42 +182,6 @@ def test_start_waits_for_it():
         room.away.unlink()
         same("the answer", "stored 1", desk.answer())
         room.check()
-
-
-def test_unanswered_at_the_end():
-    """an answer that the witness does not have at the end is shown to nobody, and its desk is told by the next start"""
-    with running(Witnessed("--witness-required").measures(seconds=20)) as room:
-        desk = room.desk(1).talk("return 1 1 1 525 -> stored 1")
-        room.lose_witness()
-        room.office.says("waiting for the witness since")
-        room.note(desk, "return 1 1 2 530")
-        until("it is on the disk", lambda: room.events()[-1].text == "stored 2")
-        same("the end", 0, room.stop())
-        said = room.office.said()
-        that(f"it says so: {said}", "unanswered: desk 1: return 1 1 2 530: the next start looks" in said)
-        same("what desk 1 was shown", ["stored 1"], desk.out)
-        room.away.unlink()
-        room.start()
-        same("the answer", "stored 2", desk.answer())
-        room.check()
-
-
-def test_end_is_noted(room):
-    """an end is noted in the log, whatever becomes of the witness, which gets it too where it is there"""
-    room.ask(1, "return 1 1 1 525")
-    room.has_all()
-    room.stop()
-    for folder in (room.folder, room.copy):
-        same(f"the last event of {folder}", ("ended", "told to"), (events(folder)[-1].kind, events(folder)[-1].facts()["reason"]))
-    room.start()
-    room.has_all()
-    room.lose_witness()
-    room.office.says("no witness since")
-    same("the end", 0, room.stop())
-    same("the last event", ("ended", "told to"), (room.events()[-1].kind, room.events()[-1].facts()["reason"]))
-    room.away.unlink()
-    room.start()
-    room.check()
 
 
 def test_full_volume(room):

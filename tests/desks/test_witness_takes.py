@@ -2,7 +2,6 @@
 import dataclasses
 import json
 import re
-import shlex
 import shutil
 import signal
 import threading
@@ -122,11 +121,3 @@ def test_checkpoints(new_room):
     that("night.db has none of it", (new_room.copy / "night.db").stat().st_size < 1 << 20)
     same(f"the end: {witness.said()}", 0, witness.end())
     that("and then all of it", (new_room.copy / "night.db").stat().st_size > 4 << 20 - 1)
-
-
-def test_arguments(new_room):
-    """wrong arguments are status 2, and nothing is made"""
-    for words in ([], [str(new_room.copy), "b"], ["--else", str(new_room.copy)]):
-        witness = new_room.process(Process, new_room.script("zhcount-witness", *words))
-        same(f"the status of {shlex.join(words)}", 2, witness.end())
-        that("nothing is made", not new_room.copy.exists())

@@ -2,6 +2,7 @@
 them there, let the call fail, or see what a power cut at that moment would leave."""
 import contextlib
 import dataclasses
+import functools
 import os
 import pathlib
 import shutil
@@ -19,11 +20,12 @@ HERE = pathlib.Path(__file__).resolve().parent
 SECTOR = 512  # bytes that a device writes whole or not at all
 
 
-def made_library(place):
-    """Makes, in a folder, what is preloaded."""
-    path = place / "watched.so"
-    subprocess.run(["cc", "-shared", "-fPIC", "-O1", "-o", path, HERE / "watched.c", "-ldl"], check=True)
-    return path
+@functools.lru_cache(maxsize=None)
+def library():
+    """The folder with what is preloaded, which goes with the tests."""
+    folder = tempfile.TemporaryDirectory(prefix="watched-")
+    subprocess.run(["cc", "-shared", "-fPIC", "-O1", "-o", f"{folder.name}/watched.so", HERE / "watched.c", "-ldl"], check=True)
+    return folder
 
 
 class ApartRoom(QuietRoom):
@@ -53,10 +55,10 @@ class WatchedRoom(ApartRoom):
     """A room whose office, desks and witness are watched: `before` hears of each call, while the process waits, unless that kills it. It
     gives the number of the fault with which the call fails, or nothing."""
 
-    def __init__(self, library, before, scripts=None):
+    def __init__(self, before, scripts=None):
         super().__init__()
         self.scripts = scripts or self.scripts
-        self.before, self.library, self.pids, self.starting = before, library, set(), threading.Lock()
+        self.before, self.pids, self.starting = before, set(), threading.Lock()
         self.copy = self.path / "witness/office"
         self.copy.parent.mkdir()
         self.beside = tempfile.TemporaryDirectory(prefix="watch-")
@@ -88,7 +90,7 @@ class WatchedRoom(ApartRoom):
         self.beside.cleanup()
 
     def process(self, kind, words):
-        watched = {"LD_PRELOAD": str(self.library), "WATCHED": str(self.path), "WATCHER": self.socket.getsockname(),
+        watched = {"LD_PRELOAD": f"{library().name}/watched.so", "WATCHED": str(self.path), "WATCHER": self.socket.getsockname(),
                    "WATCHED_AS": f"desk {words[3]}" if kind is Desk else "office"}
         with self.starting:
             process = kind(words, {**self.environment, **watched})
@@ -104,8 +106,8 @@ class WatchedRoom(ApartRoom):
 class Stop:
     """A stop (kill -9) before the call of this number, of those that count; where it is 0, none."""
 
-    def __init__(self, library, number):
-        self.library, self.number, self.calls, self.call = library, number, 0, None
+    def __init__(self, number):
+        self.number, self.calls, self.call = number, 0, None
 
     def before(self, call):
         if self.counts(call):

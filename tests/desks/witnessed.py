@@ -12,6 +12,7 @@ import threading
 import time
 
 from canton import Canton, Chance
+from counting import rows_of
 from logs import events
 from office import Office
 from processes import HAS_ENDED, same, that, until
@@ -242,10 +243,7 @@ def leave(entering):
 
 def check_what_is_held(room, entering, disk):
     """The disk that was made anew has what these desks were shown; and its status says what is closed."""
-    held = {}
-    for row in room.zhcount("export", disk=disk).splitlines()[1:]:
-        municipality, group, number, votes = row.split(",")
-        held[int(municipality), int(group)] = int(number), None if votes == "withdrawn" else int(votes)
+    held = rows_of(room.zhcount("export", disk=disk))
     rows = [it.split(",") for it in room.zhcount("status", disk=disk).splitlines()[1:]]
     closed = {int(it[0]) for it in rows if it[0].isdigit() and len(it) > 5 and it[3] == "closed"}
     for it in entering:

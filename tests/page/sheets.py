@@ -48,14 +48,9 @@ def of_cases(path):
             first = first or current
         elif re.match(r"[1-8] sheet (provisional|final) ", expected) and expected.endswith("; end"):
             sheet = expected.replace("; ", "\n") + "\n"
-            yield f"{path.name}: {title}", sheet, setup(current), office and rows_of(office)
+            yield f"{path.name}: {title}", sheet, setup(current), office and office.export()
         elif office and not takes(office, words, expected, files):
             office = None
-
-
-def rows_of(office):
-    rows = [f"{m},{g},{number},{'withdrawn' if votes is None else votes}" for (m, g), (number, votes) in sorted(office.held.items())]
-    return "\n".join(["municipality,list,number,votes", *rows, ""])
 
 
 def all_sheets():

@@ -127,7 +127,7 @@ class Kinds(Case):
             self.assertTrue(page.text("#why .caveat").startswith("The seats are not checked, and nothing is said against"))
             self.assertEqual(page.texts("#ticks li"), [])
             self.assertTrue(page.text("#proved p").startswith("It finds no whole sheet in this file. “sheet wrong” in its last line"))
-        self.says("Wrong: this is no sheet", "Line 1 of the sheet: it does not belong here", files=("hello\n",))
+        self.says("Wrong: this is not a sheet", "Line 1 of the sheet: it does not belong here", files=("hello\n",))
 
     def test_a_sheet_that_was_copied_from_a_desk(self):
         """Its first line has no desk: whatever the file is called, the page says what is missing, and what to do."""
@@ -148,7 +148,7 @@ class Kinds(Case):
         self.says("This file is damaged: get it again", "it ends in a carriage return", files=(copied.replace("\n", "\r\n"),),
                   state="damaged")
         for other in (copied.replace("provisional", "official"), f"9 {copied}", f" {copied}"):
-            self.says("Wrong: this is no sheet", "Line 1 of the sheet: it does not belong here", files=(other, *OTHERS))
+            self.says("Wrong: this is not a sheet", "Line 1 of the sheet: it does not belong here", files=(other, *OTHERS))
 
     def test_seats_that_are_not_found(self):
         """At a tie, and where the votes of a list are not known, no seats are said to follow."""

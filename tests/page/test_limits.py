@@ -69,7 +69,7 @@ class Limits(Case):
                                (4_000_000, "more than 280,064 bytes")):
             page = self.page.sheet(EXAMPLE + "x" * (length - len(EXAMPLE)))
             self.assertIn(reason, page.text(".fault .reason"))
-            self.bar_is("wrong", "✗ Wrong: this is no sheet")
+            self.bar_is("wrong", "✗ Wrong: this is not a sheet")
             self.assertEqual(page.text("#kind"), "NOT READABLE AS A SHEET")
         longest = sum(len(f"{m},{g},4294967295,1000000000\n") for m in range(1, 513) for g in range(1, 33)) + len(ROWS.split("\n")[0]) + 1
         self.assertEqual(longest + 32 * 512 + 1, LONGEST_ROWS)
@@ -91,7 +91,7 @@ class Limits(Case):
                 with self.subTest(at=at, bad=bad):
                     page = self.page.sheet(data[:at] + bad + data[at:])
                     self.assertIn("it is not UTF-8", page.text(".fault .reason"))
-                    self.assertEqual(page.text("#verdict"), "✗ Wrong: this is no sheet")
+                    self.assertEqual(page.text("#verdict"), "✗ Wrong: this is not a sheet")
                     self.assertTrue(page.text("#why").startswith(f"Line {line} of the sheet: it is not UTF-8"), page.text("#why"))
 
     def test_sums(self):

@@ -20,7 +20,8 @@ class Numbers(Case):
     def test_a_list(self):
         self.page.sheet(EXAMPLE)
         self.says("tbody tr:nth-child(1) td:nth-child(2)", "Nord, A: 3 seats ✓ holds",
-                  "525 / (205.000000 × 1.000000) = 2.560.., which rounds to 3", "more than 512.5 and less than 717.5 votes",
+                  "525 / (205.000000 × 1.000000) = 2.560.., which rounds to 3",
+                  "With these divisors, these seats need\nmore than 512.5 and less than 717.5 votes",
                   "2 × 525 = 1,050 lies between 5 × 205.000000 × 1.000000 = 1,025 and 7 × 205.000000 × 1.000000 = 1,435 ✓",
                   "Line 11 of the sheet: list 1 1 votes 525 voters 105 seats 3")
         self.says("tbody tr:nth-child(2) td:nth-child(4)", "Mitte, C: 0 seats ✓", "= 0.157.., which rounds to 0",
@@ -29,7 +30,8 @@ class Numbers(Case):
     def test_a_constituency_and_a_group(self):
         self.page.sheet(EXAMPLE)
         self.says("tbody tr:nth-child(1) th", "Nord: 5 seats ✓", "5,000 / (10,000/10) = 5, which rounds to 5",
-                  "more than 4,500 and less than 5,500 persons", "3 + 1 + 1 = 5 ✓", "525 + 300 + 175 = 1,000 ✓")
+                  "With this key, these seats need\nmore than 4,500 and less than 5,500 persons", "3 + 1 + 1 = 5 ✓",
+                  "525 + 300 + 175 = 1,000 ✓")
         self.says("thead th:nth-child(4)", "C: 1 seat ✓", "reached in Nord, Mitte, West ✓",
                   "70 / (300/6) = 1.4, which rounds to 1", "more than 25 and less than 75 voters", "1 + 0 + 0 = 1 ✓")
 

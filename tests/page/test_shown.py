@@ -73,7 +73,7 @@ class Shown(Case):
         """Its foot says of which version it is, and how that is found out: by a command, with the sum in README. It shows no sum itself."""
         foot = self.page.open().text("#which")
         self.assertTrue(foot.startswith(f"Is this the real page of zhcount {(TOP / 'VERSION').read_text().strip()}?"), foot)
-        self.assertIn("Compute the SHA-256 of this file, and compare it with the one in the README of zhcount", foot)
+        self.assertIn("Compute the SHA-256 of this file, and compare it with one that you did not get together with this page", foot)
         command = re.search(r"Linux: (.*)", foot)[1]
         told = subprocess.run(command.split(), cwd=browser.PAGE.parent, stdout=subprocess.PIPE, text=True, check=True).stdout
         self.assertIn(f"`{told.split()[0]}`", (TOP / "README.md").read_text())

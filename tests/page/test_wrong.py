@@ -92,8 +92,10 @@ class Wrong(Case):
         self.fails(None, 6, "it is not UTF-8", EXAMPLE.encode().replace(b"Mitte", b"Mitt\xe9"))
 
     def test_what_follows_and_what_is_no_line(self):
-        for more in ("\n", EXAMPLE, "x"):
+        for more in (EXAMPLE, "x", "\nx\n"):
             self.fails(None, 21, "something follows the line “end”", EXAMPLE + more)
+        for more in ("\n", "\n\n", " \r\n"):
+            self.fails(None, 21, "an empty line follows the line “end”", EXAMPLE + more, state="damaged")
         for line, old, new in ((1, "1 sheet", "0 sheet"), (1, "1 sheet", "9 sheet"), (1, "provisional", "preliminary"),
                                (2, "house 10", "house 010"), (2, "house 10", "house  10"), (5, "205.000000", "205.00000"),
                                (8, "yes voters 230", "maybe voters 230"),

@@ -48,17 +48,21 @@ def numbers(tree):
 
     cases, turns = map(int, re.search(r"^all: (\d+) cases, (\d+) turns", tree.read("crates/zh_cases/stdout"), re.M).groups())
     bodies = files("crates/*/must-fail/*.edit") + entries("tests/wrong_bodies/*.edits")
+    reached = reached_by_headline(tree)
     rows = [
         ("crates", len(tree.crates), "`crates.txt`"),
         ("lines of code", lines("src/**/*.rt"), "with their contracts; all are proved, tests too"),
         ("lines of definitions", lines("specs/**/*.antt"), "for people to read and judge, as far as a clause reaches them"),
         ("lines of proofs", lines("proofs/**/*.antt"), "nobody has to trust them: the toolchain checks them"),
-        ("definitions", f"{len(tree.definitions):,}", f"`headline` reaches {len(reached_by_headline(tree))} of them"),
+        ("definitions", f"{len(tree.definitions):,}", f"`headline` reaches {len(reached)} of them, with "
+         f"{sum(len(tree.definitions[it].text) for it in reached):,} lines"),
         ("clauses that promise something", f"{sum(bool(it.text) for it in tree.clauses):,}",
          "each `ensures` of a function or a trait"),
-        ("wrong bodies", f"{bodies:,}", f"`make test` tries the {found('tests/wrong_bodies/gravest', '^zh_')} gravest, and "
-         "`make wrong-bodies` all; `tests/edits --differ` says which crates still have to be tried"),
-        ("cases", f"{cases:,}, with {turns:,} turns", "run by the proved program `zh_cases`, as LLVM builds it and as Rattle does"),
+        ("wrong bodies", f"{bodies:,}", "mistakes put into function bodies, which a contract has to refuse: `make test` tries the "
+         f"{found('tests/wrong_bodies/gravest', '^zh_')} gravest, `make wrong-bodies` all; `tests/edits --differ` names the crates "
+         "that changed since all theirs were refused"),
+        ("cases", f"{cases:,}, with {turns:,} turns", "each turn is a step and what it has to give; run by the proved program "
+         "`zh_cases`, as LLVM builds it and as Rattle does"),
         ("tests in code", found("crates/*/src/**/*.rt", "^ *#.test."), "proved like any function, and run"),
         ("wrong lines of the scripts of `desks/`", entries("tests/desks/plants/*.edits"),
          f"a test finds each but {found('tests/desks/plants/*.edits', '^changes nothing:')}, which have no visible effect: "
