@@ -48,7 +48,7 @@ IsLotOf totals (refusals.NoUpperSeats Tied) (Groups x) = AreGroupRanges totals x
 IsLotOf totals (refusals.TiedLower d g) (Lists x) = AreListRanges totals x
 IsLotOf totals refusal lot = ⊥
 
--- there is something for the lot to decide if and only if seats are tied
+-- there is something for the lot to decide if and only if the refusal is one of the three ties
 abbrev pub IsLotFor : VoteTotals → SheetRefusal → Option Lot → Type 0
 IsLotFor totals refusal (Some lot) = IsLotOf totals refusal lot
 IsLotFor totals refusal None = ¬ IsForTheLot refusal

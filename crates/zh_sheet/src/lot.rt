@@ -55,8 +55,8 @@ fn tied_lists(alloc: Global, totals: &Totals<'_>, tied: &ListTie) -> Result<List
     Ok(ListRanges::new(totals.setup().constituencies(), groups, least, most))
 }
 
-/// What the lot decides, if there is no sheet of these totals because seats are tied. None if there is no sheet for a different
-/// reason. No lot is drawn. Fails if memory is refused.
+/// What the lot decides, if the refusal is one of the three ties. None if it is another one. No lot is drawn. Fails if memory is
+/// refused.
 pub fn explain_tie(
     alloc: Global,
     totals: &Totals<'_>,
