@@ -60,9 +60,9 @@ def numbers(tree):
          "each `ensures` of a function or a trait"),
         ("wrong bodies", f"{bodies:,}", "mistakes put into function bodies, which a contract has to refuse: `make test` tries the "
          f"{found('tests/wrong_bodies/gravest', '^zh_')} gravest, `make wrong-bodies` all; `tests/edits --differ` names the crates "
-         "that changed since all theirs were refused"),
+         "that changed since their wrong bodies were all refused"),
         ("cases", f"{cases:,}, with {turns:,} turns", "each turn is a step and what it has to give; run by the proved program "
-         "`zh_cases`, as LLVM builds it and as Rattle does"),
+         "`zh_cases`, built by LLVM and by Rattle"),
         ("tests in code", found("crates/*/src/**/*.rt", "^ *#.test."), "proved like any function, and run"),
         ("wrong lines of the scripts of `desks/`", entries("tests/desks/plants/*.edits"),
          f"a test finds each but {found('tests/desks/plants/*.edits', '^changes nothing:')}, which have no visible effect: "
