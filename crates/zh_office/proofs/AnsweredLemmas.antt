@@ -32,7 +32,7 @@ use Rattle.zh_office.specs.Office.{Office, its_ledger}
 use Rattle.zh_office.specs.Runs.{LoadTurn}
 use Rattle.zh_office.specs.Undisturbed.{is_disturbed, is_memory}
 use Rattle.zh_office.specs.Answered.{IsAnswered, IsByJudgement}
-use Rattle.zh_office.specs.Findings.{Finding, begun, findings, forecast_of, judgement, refuses}
+use Rattle.zh_office.specs.Findings.{Finding, begun, findings, forecast_of, refuses}
 use Rattle.zh_office.proofs.AnyLemmas.{all_refused, all_taken, answered_refused, answered_same, answered_stored, any_refused, any_stored}
 use Rattle.zh_office.proofs.FindingLemmas.{begun_push, next_finding}
 use Rattle.zh_office.proofs.RowLemmas.{names_missed, read_other}

@@ -1,5 +1,5 @@
 -- What answering lines adds to a film that is in order.
-use Rattle.std.specs.Prelude.{◌≡◌, ◌≢◌, ◌↔◌, ◌<◌, ℕ, List, [], ◌∷◌, ◌++◌, length, map, take, Option, Some, Result, OnOk, OnErr}
+use Rattle.std.specs.Prelude.{◌≡◌, ◌≢◌, ◌↔◌, ◌<◌, ℕ, List, ◌∷◌, ◌++◌, length, map, take, Option, Some, Result, OnOk, OnErr}
 use Rattle.std.specs.Io.KnownBytes.{Appends}
 use Rattle.zh_text.specs.declared.output.WriteFault.{WriteFault}
 use Rattle.zh_film.specs.Frames.{EndsOnce, Frame, HasEnded, InOrder, NoneFailed, reads_in}

@@ -1,5 +1,5 @@
 -- The answers of an office whose device does not fail and which has numbers left.
-use Rattle.std.specs.Prelude.{◌≡◌, ℕ, ◌<◌, ◌-◌, ◌^◌, Bool, true, false, List, [], ◌∷◌, Ok, Err}
+use Rattle.std.specs.Prelude.{◌≡◌, ◌<◌, ◌-◌, ◌^◌, Bool, true, false, List, [], ◌∷◌, Ok, Err}
 use Rattle.zh_commands.specs.declared.lines.Request.{Request}
 use Rattle.zh_commands.specs.declared.lines.Request.TheVariants as requests
 use Rattle.zh_commands.specs.declared.lines.BatchStep.TheVariants as steps

@@ -1,4 +1,4 @@
-use Rattle.std.proofs.Common.{◌≡◌, ◌<◌, ℕ, length, map, take, ap, subst, refl}
+use Rattle.std.proofs.Common.{◌<◌, ℕ, length, map, take, ap, subst, refl}
 use Rattle.std.specs.Io.KnownBytes.{Appends}
 use Rattle.std.proofs.lemmas.Result.{err_from_is_err_and}
 use Rattle.zh_film.specs.Frames.{frame_of, frames}
