@@ -1,4 +1,4 @@
--- The order in which things are read, carried out and answered.
+-- The order in which an office reads what it is given, carries it out and answers.
 use Rattle.std.specs.Prelude.{◌≡◌, ◌≢◌, ◌⊎◌, ◌≤◌, ℕ, List, ◌++◌, length, map, Some}
 use Rattle.std.specs.Io.KnownBytes.{Appends, Consumes}
 use Rattle.zh_disk.specs.Disk.{Trail}
@@ -7,7 +7,7 @@ use Rattle.zh_film.specs.declared.kind.FrameKind.TheVariants.{Asks}
 use Rattle.zh_office.specs.Exchanges.{Exchange, disk_by, lines_given, texts}
 use Rattle.zh_office.specs.Text.{ended_lines}
 
--- what is given, if anything, is carried out: nothing is written, and the disk was still as the earlier exchanges left it
+-- what is given, if anything is, is carried out: nothing is written, and the disk was still as the earlier exchanges left it
 pub record IsDone (before : Trail) (a b : Frame) : Type 0 where
   pub still : a.disk ≡ before
   pub unwritten : b.written ≡ a.written

@@ -1,4 +1,4 @@
--- What an office does when it is given something, once and again and again.
+-- What an office does when it is given a line or a text, or several one after another.
 use Rattle.std.specs.Prelude.{◌≡◌, ◌≤◌, ℕ, Bool, List, [], ◌∷◌, Option, Result, IsTrue, true, false}
 use Rattle.zh_commands.specs.Lines.{ParsesAs}
 use Rattle.zh_commands.specs.declared.lines.Line.{Line}

@@ -42,7 +42,7 @@ pub record GivenText : Type 0 where
 abbrev pub given_text : Option (List ℕ) → Bool → GivenText
 given_text bytes failed = record { bytes = bytes; failed = failed }
 
--- The load of this text as an exchange.
+-- The exchange in which this text, loaded like this, got this reply.
 abbrev pub load_in : GivenText → Reply → Session → Session → Result (List Row) LoadFault → Exchange
 load_in text reply old new loaded = exchange old.office (text_given text.bytes loaded) (answers.Reply reply) new.office
 
