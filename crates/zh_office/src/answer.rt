@@ -8,7 +8,7 @@ ghost use Rattle.zh_office.specs.Answers.{answer_to_commit, batch_of, batch_afte
 ghost use Rattle.zh_office.specs.declared.answer.Answer.TheVariants as answers;
 ghost use Rattle.zh_commands.specs.Lines.{IsRequest};
 ghost use Rattle.zh_office.specs.DeskBatches.{rows_of, with_batch};
-ghost use Rattle.zh_ledger.specs.Submissions.{Log, on_disk};
+ghost use Rattle.zh_ledger.specs.Submissions.{on_disk};
 ghost use Rattle.zh_office.specs.Requests.{Acts, MayAnswerWhere, ReportsOutcome, answer_may_write, reply_to};
 ghost use Rattle.zh_commands.specs.declared.lines.Request.TheVariants as requests;
 
@@ -83,8 +83,8 @@ fn commit<D: Disk>(
     bytes: &mut [u8],
 ) -> Reply
     requires room { rows_length ≤ length bytes.old }
-    ensures acts { (log : Log) × Acts (on_disk ledger.old (D.history disk.old)) (batch_of desk.number (rows_of desks.old desk))
-        (λ answer. answer ≡ answers.Reply (answer_to_commit (rows_of desks.old desk))) (answers.Reply result) log
+    ensures acts { Acts (on_disk ledger.old (D.history disk.old)) (batch_of desk.number (rows_of desks.old desk))
+        (λ answer. answer ≡ answers.Reply (answer_to_commit (rows_of desks.old desk))) (answers.Reply result)
         (on_disk ledger.new (D.history disk.new)) }
     ensures held { desks.new ≡ with_batch desks.old desk (batch_after (rows_of desks.old desk) requests.Commit result) }
     ensures untouched { answer_may_write (answers.Reply result) ≡ false → disk.new ≡ disk.old }
@@ -105,9 +105,9 @@ impl<'s> Office<'s> {
     /// device every answer is `reopen-disk`.
     pub(crate) fn answer_to<D: Disk>(&mut self, disk: &mut D, line: Line) -> Answer<'s>
         requires { IsRequest line.request }
-        ensures acts { (log : Log) × Acts (on_disk self.old.ledger (D.history disk.old))
+        ensures acts { Acts (on_disk self.old.ledger (D.history disk.old))
             (command_of line.desk (rows_of self.old.held line.desk) line.request)
-            (MayAnswerWhere self.old.ledger.store.broken self.old.ledger.tally self.old.held line) result log
+            (MayAnswerWhere self.old.ledger.store.broken self.old.ledger.tally self.old.held line) result
             (on_disk self.new.ledger (D.history disk.new)) }
         ensures held { self.new.held ≡ held_after self.old.held line result }
         ensures untouched { answer_may_write result ≡ false → disk.new ≡ disk.old }

@@ -4,9 +4,9 @@ ghost use Rattle.std.specs.Prelude.{◌≡◌, false, true, ℕ, Bool, List, Opt
 ghost use Rattle.zh_csv.specs.Load.{LoadsFrom};
 ghost use Rattle.zh_csv.specs.Noted.{has_failed, inner_reader};
 ghost use Rattle.zh_ledger.specs.Submissions.{on_disk};
-ghost use Rattle.zh_office.specs.Load.{LoadTurn, load_refusal};
+ghost use Rattle.zh_office.specs.Load.{load_refusal};
 ghost use Rattle.zh_office.specs.Requests.{answer_may_write};
-ghost use Rattle.zh_office.specs.Runs.{Continues};
+ghost use Rattle.zh_office.specs.Runs.{Continues, LoadTurn};
 ghost use Rattle.zh_office.specs.declared.answer.Answer.TheVariants as answers;
 
 use crate::answer::submit_rows;

@@ -11,7 +11,7 @@ ghost use Rattle.zh_ledger.specs.Opening.{MakesNew, Opening};
 ghost use Rattle.zh_ledger.specs.Submissions.{on_disk};
 ghost use Rattle.zh_office.specs.Opened.{ledger_of_opened};
 ghost use Rattle.zh_office.specs.Requests.{answer_may_write};
-ghost use Rattle.zh_office.specs.Runs.{Turn};
+ghost use Rattle.zh_office.specs.Runs.{LineTurn};
 ghost use Rattle.zh_snapshot.specs.Faults.{store_format_fails};
 ghost use Rattle.zh_totals.specs.Counting.{totals_of};
 
@@ -131,7 +131,7 @@ impl<'s> Office<'s> {
     /// and the count is without it.
     pub fn line<D: Disk>(&mut self, disk: &mut D, bytes: &[u8]) -> Answer<'s>
         // If the disk is honest, the turn also says what a stop can leave on it, at each moment since the call began.
-        ensures turn { Turn (on_disk self.old (D.history disk.old)) bytes.now result (on_disk self.new (D.history disk.new)) }
+        ensures turn { LineTurn (on_disk self.old (D.history disk.old)) bytes.now result (on_disk self.new (D.history disk.new)) }
 
         ensures others { (desk : Desk) → desk.number ≢ desk_of bytes.now → rows_of self.new.held desk ≡ rows_of self.old.held desk }
         ensures untouched { answer_may_write result ≡ false → disk.new ≡ disk.old }

@@ -1,14 +1,14 @@
 //! Serving the lines of a reader.
 
-ghost use Rattle.std.specs.Prelude.{◌≡◌, ◌≤◌, ◌++◌, ◌↔◌, [], length, MatchResult, IfOk, IsErrOf, OnOk};
+ghost use Rattle.std.specs.Prelude.{◌≡◌, ◌≤◌, ◌++◌, ◌↔◌, [], ◌∷◌, length, MatchResult, IsErrOf};
 ghost use Rattle.zh_office.specs.Text.{HasNoEnd, ended_lines, last_line};
 ghost use Rattle.zh_film.specs.Frames.{frames};
 ghost use Rattle.zh_film.specs.Scenes.{scenes};
 ghost use Rattle.zh_ledger.specs.Submissions.{on_disk};
-ghost use Rattle.zh_office.specs.Filmed.{FilmsAll, FilmsFront, TakesBlock, WritesAnswer, WritesText};
-ghost use Rattle.zh_office.specs.Runs.{Continues, answer_text};
-ghost use Rattle.zh_office.specs.Served.{session, HasFailedRead, EndsWithinReads, MakesAllReads, MakesReadsUpTo, ServesAll, ServesEnded};
-ghost use Rattle.zh_office.specs.Served.{ServesFront, serving_name};
+ghost use Rattle.zh_office.specs.Exchanges.{answer_text};
+ghost use Rattle.zh_office.specs.Filmed.{FilmsAll, FilmsFront, TakesBlock, WritesText};
+ghost use Rattle.zh_office.specs.Runs.{Continues};
+ghost use Rattle.zh_office.specs.Served.{session, HasFailedRead, IsReadWithin, Serves, serving_name};
 ghost use Rattle.zh_office.specs.declared.service.ServeFault.TheVariants as faults;
 
 use crate::answer::Answer;
@@ -91,12 +91,17 @@ impl<'s> Office<'s> {
         disk: &mut D,
         film: &mut Film<R, W, D>,
     ) -> Result<(), WriteFault>
-        ensures { WritesAnswer
+        ensures { MatchResult result
+            (λ _. FilmsAll (bytes.now ∷ [])
             (session (W.contents writer.old) self.old (D.history disk.old)
             (R.remaining reader.now) (frames R.Read W.Write D.Disk film.old))
-            bytes.now result
             (session (W.contents writer.new) self.new (D.history disk.new)
-            (R.remaining reader.now) (frames R.Read W.Write D.Disk film.new)) }
+            (R.remaining reader.now) (frames R.Read W.Write D.Disk film.new)))
+            (λ _. FilmsFront (bytes.now ∷ [])
+            (session (W.contents writer.old) self.old (D.history disk.old)
+            (R.remaining reader.now) (frames R.Read W.Write D.Disk film.old))
+            (session (W.contents writer.new) self.new (D.history disk.new)
+            (R.remaining reader.now) (frames R.Read W.Write D.Disk film.new))) }
     {
         let desk = desk_of(bytes);
         let answer = self.line(disk, bytes);
@@ -191,26 +196,11 @@ impl<'s> Office<'s> {
         turns: u64,
     ) -> Result<u64, ServeFault>
         requires { scenes film.old ≡ [] }
-        ensures ok { IfOk result (ServesAll
-            (session (W.contents writer.old) self.old (D.history disk.old)
-            (R.remaining reader.old) (frames R.Read W.Write D.Disk film.old))
+        ensures serves { Serves
+            (session (W.contents writer.old) self.old (D.history disk.old) (R.remaining reader.old) [])
             (session (W.contents writer.new) self.new (D.history disk.new)
-            (R.remaining reader.new) (frames R.Read W.Write D.Disk film.new))) }
-        ensures read { IsErrOf result ServeFault.Read → ServesEnded
-            (session (W.contents writer.old) self.old (D.history disk.old)
-            (R.remaining reader.old) (frames R.Read W.Write D.Disk film.old))
-            (session (W.contents writer.new) self.new (D.history disk.new)
-            (R.remaining reader.new) (frames R.Read W.Write D.Disk film.new)) }
-        ensures write { IsErrOf result ServeFault.Write → ServesFront
-            (session (W.contents writer.old) self.old (D.history disk.old)
-            (R.remaining reader.old) (frames R.Read W.Write D.Disk film.old))
-            (session (W.contents writer.new) self.new (D.history disk.new)
-            (R.remaining reader.new) (frames R.Read W.Write D.Disk film.new)) }
-        ensures turns { IsErrOf result ServeFault.Turns → ServesEnded
-            (session (W.contents writer.old) self.old (D.history disk.old)
-            (R.remaining reader.old) (frames R.Read W.Write D.Disk film.old))
-            (session (W.contents writer.new) self.new (D.history disk.new)
-            (R.remaining reader.new) (frames R.Read W.Write D.Disk film.new)) }
+            (R.remaining reader.new) (frames R.Read W.Write D.Disk film.new))
+            result }
         // The latest frame of the film is of a failed read exactly if serving ends with that fault.
         ensures failed { HasFailedRead (frames R.Read W.Write D.Disk film.new) ↔ IsErrOf result ServeFault.Read }
         // However serving ends, the history of the disk continues from the one before, and its count of failures does not
@@ -218,13 +208,7 @@ impl<'s> Office<'s> {
         ensures disk { Continues (on_disk self.old.ledger (D.history disk.old)) (on_disk self.new.ledger (D.history disk.new)) }
         // If serving ends for lack of reads, all allowed reads were made. It never makes more. Each read takes at least one
         // byte, except possibly the last.
-        ensures enough { IsErrOf result ServeFault.Turns → MakesAllReads (frames R.Read W.Write D.Disk film.new)
-            (R.remaining reader.old) (R.remaining reader.new) turns }
-        ensures most { OnOk result (EndsWithinReads (frames R.Read W.Write D.Disk film.new)
-            (R.remaining reader.old) (R.remaining reader.new) turns) }
-        ensures most_at_read { IsErrOf result ServeFault.Read → EndsWithinReads (frames R.Read W.Write D.Disk film.new)
-            (R.remaining reader.old) (R.remaining reader.new) turns }
-        ensures most_at_write { IsErrOf result ServeFault.Write → MakesReadsUpTo (frames R.Read W.Write D.Disk film.new)
+        ensures reads { IsReadWithin result (frames R.Read W.Write D.Disk film.new)
             (R.remaining reader.old) (R.remaining reader.new) turns }
     {
         let mut block = blank_block();

@@ -13,7 +13,7 @@ use Rattle.zh_sheet.specs.Refusals.{LeaveNoSeats}
 use Rattle.zh_ledger.specs.Images.{HasSome}
 use Rattle.zh_ledger.specs.Stands.{Holds}
 use Rattle.zh_office.specs.declared.answer.Answer.TheVariants.{Reply, Sheet}
-use Rattle.zh_program.specs.Exchanges.{EachIn, Exchange, IsReadRight, command_given, count_by, disk_by, held_by, log_by, log_of}
+use Rattle.zh_office.specs.Exchanges.{EachIn, Exchange, IsReadRight, command_given, count_by, disk_by, held_by, log_by, log_of}
 use Rattle.zh_program.specs.Order.{AnswersBeforeReading, Conversation, KeepsWhatIsTold, Throughout}
 use Rattle.zh_program.specs.Sheets.{FollowsFrom, IsTie}
 use Rattle.zh_program.specs.Stopped.{Always, OpensTo}

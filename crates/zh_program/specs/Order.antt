@@ -6,7 +6,7 @@ use Rattle.zh_film.specs.declared.kind.FrameKind.TheVariants.{Asks}
 use Rattle.zh_returns.specs.Tally.{Tally}
 use Rattle.zh_ledger.specs.Images.{HasSome}
 use Rattle.zh_office.specs.Text.{ended_lines}
-use Rattle.zh_program.specs.Exchanges.{Exchange, line_in, log_of, text_of}
+use Rattle.zh_office.specs.Exchanges.{Exchange, line_in, log_of, text_of}
 use Rattle.zh_program.specs.Stopped.{Always}
 
 -- A conversation: at the beginning, at each time that a film shows (latest first), and at the end, the bytes left in the input,

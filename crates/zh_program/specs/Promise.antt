@@ -14,7 +14,7 @@ use Rattle.zh_arguments.specs.declared.arguments.Task.TheVariants.{Format}
 use Rattle.zh_program.specs.Rehearse.{rehearsal_shown}
 use Rattle.zh_program.specs.World.{FilmedOf, Known, WorldOf}
 use Rattle.zh_program.specs.Due.{AnswerLines, AreOfTask, conversation, talk_of}
-use Rattle.zh_program.specs.Exchanges.{Exchange}
+use Rattle.zh_office.specs.Exchanges.{Exchange}
 use Rattle.zh_program.specs.Headline.{Headline}
 use Rattle.zh_program.specs.Order.{AnswersBeforeReading, Throughout}
 use Rattle.zh_program.specs.Stopped.{MakesEmpty}

@@ -24,7 +24,7 @@ ghost use Rattle.zh_ledger.specs.Stands.{Holds, HoldsFramed};
 ghost use Rattle.zh_ledger.specs.declared.opening.OpenFault.{OpenFault};
 ghost use Rattle.zh_ledger.specs.declared.opening.OpenFault.TheVariants as faults;
 ghost use Rattle.zh_office.specs.declared.answer.Answer.TheVariants as answers;
-ghost use Rattle.zh_program.specs.Exchanges.{Exchange, count_by, disk_by, line_in, log_of, text_of};
+ghost use Rattle.zh_office.specs.Exchanges.{Exchange, count_by, disk_by, line_in, log_of, text_of};
 ghost use Rattle.zh_office.specs.Text.{ended_lines};
 ghost use Rattle.zh_program.specs.World.{known};
 ghost use Rattle.zh_program.specs.declared.on_disk.Filmed.{Filmed};
@@ -39,8 +39,7 @@ ghost use Rattle.zh_check.specs.Verdicts.{IsRight};
 ghost use Rattle.zh_check.specs.declared.checked.RightSheet.{RightSheet};
 ghost use Rattle.zh_disk.specs.History.{History};
 ghost use Rattle.zh_ledger.specs.Submissions.{IsLogged, Log, OnDisk};
-ghost use Rattle.zh_office.specs.Office.{Office};
-ghost use Rattle.zh_office.specs.Runs.{its_ledger};
+ghost use Rattle.zh_office.specs.Office.{Office, its_ledger};
 ghost use Rattle.zh_program.specs.Opened.{IsFrom, KeepsAll};
 ghost use Rattle.zh_totals.specs.Totals.{VoteTotals};
 
