@@ -6,8 +6,9 @@ use Rattle.std.specs.Char.{is_ascii_digit}
 use Rattle.std.specs.List.{list_all}
 use Rattle.std.specs.Str.{bytes_eq}
 use Rattle.zh_districts.specs.Canton.{Canton}
+use Rattle.zh_record_text.specs.Names.{name_of_constituency, name_of_group}
 use Rattle.zh_sheet_text.specs.Layout.{SheetLine, label_text, mark_before, sheet_lines}
-use Rattle.zh_sheet_text.specs.SheetText.{constituency_name, divisor_text, group_name}
+use Rattle.zh_sheet_text.specs.SheetText.{divisor_text}
 use Rattle.zh_sheet_text.specs.declared.line.SheetPart.{SheetPart}
 use Rattle.zh_sheet_text.specs.declared.line.SheetPart.TheVariants.{Fixed, Number, Desk, Kind, Accepted, SeatsKey, UpperKey}
 use Rattle.zh_sheet_text.specs.declared.line.SheetPart.TheVariants.{ConstituencySeats, ConstituencyVotes, ConstituencyDivisor}
@@ -68,8 +69,8 @@ filled part word = if fits part word then word else dots_for word
 abbrev pub known_text : Canton → SheetPart → Option (List ℕ)
 known_text canton (Fixed label) = Some (label_text label)
 known_text canton (Number n) = Some (decimal n)
-known_text canton (ConstituencyName d) = Some (constituency_name canton d)
-known_text canton (GroupName g) = Some (group_name canton g)
+known_text canton (ConstituencyName d) = Some (name_of_constituency canton d)
+known_text canton (GroupName g) = Some (name_of_group canton g)
 known_text canton part = None
 
 abbrev pub part_form : Canton → SheetPart → List ℕ → List ℕ

@@ -11,15 +11,14 @@ use crate::recomputed::{read, recomputed, text_of};
 use std::alloc::{AllocError, Global};
 use zh_districts::Setup;
 use zh_sheet::Sheet;
+use zh_sheet_text::Head;
 use zh_totals::Totals;
 
-/// A right sheet: its distribution, and the values of its first line.
+/// A right sheet: its distribution, and what its first line says.
 #[derive(Drop)]
 pub struct RightSheet<'s> {
     pub sheet: Sheet<'s>,
-    pub desk: u8,
-    pub is_final: bool,
-    pub accepted: u64,
+    pub head: Head,
 }
 
 /// A line that is wrong.

@@ -50,8 +50,8 @@ impl<'s> Takes for Loading<'s> {
 
     ghost holds = { λ canton taker rows. (taker.setup.now ≡ canton) × (taker.rows ≡ rows) × AreLoaded canton rows };
 
-    fn take(&mut self, record: &ByteRecord) -> Result<(), LoadFault> {
-        hold(self.setup, &mut self.rows, row_of(record)?)
+    fn take(&mut self, csv_record: &ByteRecord) -> Result<(), LoadFault> {
+        hold(self.setup, &mut self.rows, row_of(csv_record)?)
     }
 }
 

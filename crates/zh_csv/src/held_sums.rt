@@ -132,12 +132,12 @@ impl<'s> Takes for RunningSums<'s> {
 
     ghost holds = { λ canton sums rows. HasTaken canton rows sums };
 
-    fn take(&mut self, record: &ByteRecord) -> Result<(), LoadFault> {
+    fn take(&mut self, csv_record: &ByteRecord) -> Result<(), LoadFault> {
         // The limits of a set-up bound the number of its rows.
         let setup = self.totals.setup();
         let is_small = setup.municipalities() <= 512 && setup.groups() <= 32;
         prove!(is_small);
-        self.note(&held_row_of(record)?)
+        self.note(&held_row_of(csv_record)?)
     }
 }
 
@@ -165,31 +165,31 @@ fn votes_in(field: &[u8]) -> Option<Option<u32>>
 }
 
 /// The row in a record of four fields.
-fn held_row_in(record: &ByteRecord) -> Option<HeldRow>
-    requires { length (fields_of «record».now) ≡ 4 }
+fn held_row_in(csv_record: &ByteRecord) -> Option<HeldRow>
+    requires { length (fields_of csv_record.now) ≡ 4 }
     ensures { MatchOption result
-        ((row : HeldRow) → IsHeldRow row → fields_of «record».now ≢ held_fields row)
-        (λ row. IsHeldRow row × (fields_of «record».now ≡ held_fields row)) }
+        ((row : HeldRow) → IsHeldRow row → fields_of csv_record.now ≢ held_fields row)
+        (λ row. IsHeldRow row × (fields_of csv_record.now ≡ held_fields row)) }
 {
     let row = HeldRow {
-        municipality: numeral(field(record, 0))?,
-        list: numeral(field(record, 1))?,
-        number: numeral(field(record, 2))?,
-        votes: votes_in(field(record, 3))?,
+        municipality: numeral(field(csv_record, 0))?,
+        list: numeral(field(csv_record, 1))?,
+        number: numeral(field(csv_record, 2))?,
+        votes: votes_in(field(csv_record, 3))?,
     };
     if row.number == 0 { None } else { Some(row) }
 }
 
 /// The row of a record, or why the record is not a row.
-fn held_row_of(record: &ByteRecord) -> Result<HeldRow, LoadFault>
+fn held_row_of(csv_record: &ByteRecord) -> Result<HeldRow, LoadFault>
     ensures { MatchResult result
-        (λ row. IsHeldRow row × (fields_of «record».now ≡ held_fields row))
-        (IsUnread held_fields IsHeldRow (fields_of «record».now)) }
+        (λ row. IsHeldRow row × (fields_of csv_record.now ≡ held_fields row))
+        (IsUnread held_fields IsHeldRow (fields_of csv_record.now)) }
 {
-    if !may_be_row(record) {
+    if !may_be_row(csv_record) {
         return Err(LoadFault::Csv);
     }
-    held_row_in(record).ok_or(LoadFault::Syntax)
+    held_row_in(csv_record).ok_or(LoadFault::Syntax)
 }
 
 /// What is wrong with a record of an export.

@@ -60,7 +60,9 @@ pub fn upper(
     }
     let shares = shares_of(alloc, &sums, house)?;
     let seats = spread(alloc, shares.seats(), taking)?;
-    Ok(Upper::new(seats, shares.num(), shares.den()))
+    Ok(Upper {
+        shares: Shares::new(seats, shares.num(), shares.den()),
+    })
 }
 
 /// The voter sums of the groups that take part, in their order.

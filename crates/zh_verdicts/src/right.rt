@@ -94,9 +94,9 @@ fn push_desk(text: &mut Vec<u8>, desk: u8) -> Result<(), AllocError>
 fn push_unchecked(text: &mut Vec<u8>, right: &RightSheet<'_>) -> Result<(), AllocError>
     ensures { OnOk result (text.new.items ≡ text.old.items ++ unchecked_line right.now) }
 {
-    push_kind(text, right.is_final)?;
-    push_commands(text, right.accepted)?;
-    push_desk(text, right.desk)
+    push_kind(text, right.head.is_final)?;
+    push_commands(text, right.head.accepted)?;
+    push_desk(text, right.head.desk)
 }
 
 /// The line about what a check can't know of a right sheet: whether it is final or provisional, how many commands were
