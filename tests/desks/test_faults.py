@@ -60,7 +60,7 @@ def test_disk_is_busy(new_room):
     same("told to end", 0, new_room.stop())
     new_room.start(is_awaited=False).says("another program has the disk: waiting for its end")
     holder.end()
-    new_room.ends(3, "has 1 command, and")
+    new_room.ends(3, "has 1 command, but")
 
 
 def test_busy_disk_at_the_end(new_room):
