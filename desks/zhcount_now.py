@@ -35,7 +35,8 @@ class Now:
 
     def __init__(self, log: Log, disk: Disk, program: Program, totals: str):
         self.log, self.disk, self.program, self.totals = log, disk, program, totals
-        self.lines, self.state = io.StringIO(), State()  # lines.csv, and what follows from the events up to its last one
+        # lines.csv, as a file in memory that a child inherits, and what follows from the events up to its last line
+        self.lines, self.state = open(os.memfd_create("lines.csv"), "w", encoding="utf-8", newline=""), State()
         self.writer = csv.writer(self.lines, lineterminator="\n")
         self.lines.write("number,at,start,desk,turn,line,answer,answered_at\n")
         self.child: Any = None
@@ -100,18 +101,17 @@ class Now:
             self.look()
 
     def copy(self) -> None:
-        """Copies the disk and the lines, and starts the child."""
+        """Copies the disk, and starts the child, which has the lines as its standard input."""
         self.at = time.monotonic()
         self.disk.check()
         self.note()
-        path, numbers = self.last(), (self.state.commands, os.getpid(), self.priority)
+        self.lines.flush()
+        path, numbers = self.last(), (self.state.commands, os.fstat(self.lines.fileno()).st_size, os.getpid(), self.priority)
         os.mkdir(path)
         os.chmod(path, 0o2750)
         shutil.copyfile(self.disk.path, os.path.join(path, "disk"))
-        with open(os.path.join(path, "lines.csv"), "w", encoding="utf-8") as file:
-            file.write(self.lines.getvalue())
         words = [sys.executable, "-B", __file__, self.program.setup, path, *map(str, numbers), self.totals]
-        self.child = subprocess.Popen(words, stdin=subprocess.DEVNULL, stdout=subprocess.DEVNULL, start_new_session=True)
+        self.child = subprocess.Popen(words, stdin=self.lines, stdout=subprocess.DEVNULL, start_new_session=True)
 
     def end_child(self) -> None:
         """Ends the child, if it is late, with what it has started. All is removed that is not shown then."""
@@ -167,17 +167,16 @@ def published(program: Program, files: Dict[str, bytes], line: str, commands: in
     return {f"publish/{name}": data for name, data in found.items()}
 
 
-def made(setup: str, folder: str, commands: int, totals: str) -> Dict[str, bytes]:
-    """What follows from a copy of the disk, by the names of the files."""
+def made(setup: str, folder: str, commands: int, table: bytes, totals: str) -> Dict[str, bytes]:
+    """What follows from a copy of the disk and from lines.csv, by the names of the files."""
     program = Program(setup, os.path.join(folder, "disk"), is_apart=False)  # it ends with this process
     status, held = program.done("status")[0], program.done("export")[0]
     implausible, sums = program.done("status", "--implausible")
     if b", %d commands;" % commands not in sums:
         raise Stopped(f"the copy has not the {commands} commands of the log: {plain(sums)}")
-    with open(os.path.join(folder, "lines.csv"), encoding="utf-8", newline="") as file:
-        lines = list(csv.DictReader(file))
+    lines = list(csv.DictReader(io.StringIO(table.decode(), newline="")))
     line = "final" if any(it["answer"].startswith(f"sheet final {commands} ") for it in lines) else "sheet"  # as a desk has had it
-    files = {"status": status, "sums": sums, "missing": program.done("status", "--missing")[0], "implausible": implausible,
+    files = {"lines.csv": table, "status": status, "sums": sums, "missing": program.done("status", "--missing")[0], "implausible": implausible,
              "held.csv": held, "unconfirmed": unconfirmed(program, held, lines),
              "votes.csv": program.done("votes")[0], "vote-groups.csv": program.done("votes", "--of", "groups")[0],
              **seats_of(program, line)}
@@ -195,7 +194,7 @@ def show(folder: str, files: Dict[str, bytes]) -> None:
     for name, data in files.items():
         with open(name, "wb") as file:
             file.write(data)
-    for name in ("disk", "lines.csv", *files):
+    for name in ("disk", *files):
         os.chmod(name, 0o644 if name.startswith("publish/") else 0o640)
     os.chmod("publish", 0o755)
     if os.path.exists("../witness"):
@@ -204,11 +203,12 @@ def show(folder: str, files: Dict[str, bytes]) -> None:
     os.rename("now", "../now")
 
 
-def main(setup: str, folder: str, commands: str, office: str, priority: str, totals: str) -> None:
-    """The child, for a copy that has to have these commands. Without the process of its office it shows nothing. `totals` may be empty."""
+def main(setup: str, folder: str, commands: str, length: str, office: str, priority: str, totals: str) -> None:
+    """The child, for a copy that has to have these commands. lines.csv is what its standard input has up to this length: the office goes on
+    writing. Without the process of its office it shows nothing. `totals` may be empty."""
     os.nice(int(priority))
     try:
-        files = made(setup, folder, int(commands), totals)
+        files = made(setup, folder, int(commands), os.pread(0, int(length), 0), totals)
         if os.getppid() == int(office):
             show(folder, files)
     except (Stopped, OSError, subprocess.SubprocessError) as it:

@@ -51,7 +51,7 @@ def pytest_collection_modifyitems(items):
 
 
 def pytest_terminal_summary(terminalreporter):
-    """Each test that is skipped is named, with its reason: none goes unsaid. What was seen of all mistakes is kept."""
+    """Each test that is skipped or was run again is named, with the reason: none goes unsaid. What was seen of all mistakes is kept."""
     passed = {it.nodeid for it in terminalreporter.stats.get("passed", [])}
     if any("test_plants.py::test_mistake" in it for it in passed):
         importlib.import_module("test_plants").keep_sums(passed)
@@ -59,6 +59,11 @@ def pytest_terminal_summary(terminalreporter):
     terminalreporter.section(f"{len(skipped)} skipped")
     for it in skipped:
         terminalreporter.line(f"skipped: {it.nodeid}: {it.longrepr[2] if isinstance(it.longrepr, tuple) else it.longrepr}")
+    again = terminalreporter.stats.get("rerun", [])
+    terminalreporter.section(f"{len(again)} run again")
+    for it in again:
+        said = str(getattr(getattr(it.longrepr, "reprcrash", None), "message", it.longrepr)).partition("\n")[0]
+        terminalreporter.line(f"run again: {it.nodeid}: {said}")
 
 
 @pytest.fixture

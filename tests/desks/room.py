@@ -7,6 +7,7 @@ import pathlib
 import re
 import shutil
 import signal
+import socket
 import stat
 import subprocess
 import sys
@@ -120,6 +121,13 @@ class Room:
 
     def serves(self):
         return "desks can send lines" in self.office.said()
+
+    def listens(self):
+        """Whether somebody is let in at the socket: the last thing that a start does before it says so."""
+        with socket.socket(socket.AF_UNIX) as at, contextlib.suppress(OSError):
+            at.connect(str(self.folder / "desk"))
+            return True
+        return False
 
     def await_start(self):
         """Waits until the office serves, or has ended."""

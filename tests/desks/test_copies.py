@@ -64,6 +64,18 @@ def test_lines_meanwhile():
         compare(room, [], shown=0)
 
 
+def test_lines_before_the_child_reads():
+    """a child that takes long to begin has no line of after its copy"""
+    with QuickRoom(every=NEVER) as room:
+        room.held.touch()
+        waits = f"    while os.path.exists({str(room.held)!r}):\n        time.sleep(0.02)\n"
+        room.edit_script("zhcount_now.py", r"^    os\.nice\(", f"{waits}    os.nice(")
+        room.start()
+        same("the answers meanwhile", ["stored 1", "stored 2"], room.ask(1, *RETURNS[:2]).out)
+        room.goes_on()
+        compare(room, [], shown=0)
+
+
 def test_copies_between_lines():
     """the disk is copied only where no line is in the air"""
     with QuickRoom(every=0.05) as room:

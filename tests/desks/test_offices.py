@@ -28,7 +28,7 @@ def start_after(room, before):
     """Starts the office below a shell that does this first. What it says may not come."""
     words = room.script("zhcount-office", room.setup, room.disk, room.folder)
     room.office = room.process(Process, ["sh", "-c", f'{before}; exec "$0" "$@"', *words])
-    until(f"the office is ready after {before}", lambda: (room.folder / "desk").exists() or room.office.has_ended())
+    until(f"the office is ready after {before}", lambda: room.listens() or room.office.has_ended())
     that(f"it runs after {before}: {room.office.said()}", not room.office.has_ended())
     streams = [os.path.realpath(f"/proc/{room.office.process.pid}/fd/{number}") for number in range(3)]
     same(f"streams that are files of the folder after {before}", [], [it for it in streams if it.startswith(str(room.folder))])
