@@ -12,14 +12,15 @@ pub fn one_reading()
     ensures { (bytes : List ℕ) (a b : Result Line LineFault) → ParsesAs bytes a → ParsesAs bytes b → a ≡ b }
 {}
 
-/// Different lines have different spellings. A spelling has at most 120 bytes and is read as its line.
+/// Different lines have different spellings. A spelling has at most 120 bytes and is read as its line. This holds for
+/// the lines that can be read: their numbers are below 2^32, and a replacement number is at least 1.
 pub fn one_spelling()
     ensures same { (a b : Line) → IsRequest a.request → IsRequest b.request → spelling a ≡ spelling b → a ≡ b }
     ensures short { (line : Line) → IsRequest line.request → length (spelling line) ≤ 120 }
     ensures read { (line : Line) → IsRequest line.request → ParsesAs (spelling line) (Ok line) }
 {}
 
-/// A line that is read is answered under its own desk.
+/// If a text can be read as a line, the desk under which it is answered (`desk_of`) is the desk of the line.
 pub fn one_desk()
     ensures { (bytes : List ℕ) (line : Line) → ParsesAs bytes (Ok line) → desk_of bytes ≡ line.desk.number }
 {}

@@ -86,7 +86,7 @@ impl<'s> RunningSums<'s> {
         })
     }
 
-    /// Adds one row.
+    /// Adds one row. Fails with the first reason why it can't follow the rows before it, or if memory is refused.
     fn note(&mut self, row: &HeldRow) -> Result<(), LoadFault>
         requires readable { IsHeldRow row.now }
         requires taken { (canton : Canton) × (rows : List HeldRow) × HasTaken canton rows self.old }
@@ -164,7 +164,7 @@ fn votes_in(field: &[u8]) -> Option<Option<u32>>
     Some(Some(votes))
 }
 
-/// The row in a record of four fields.
+/// The row in a record of four fields. `None` if a field is not spelled as in an export, or the replacement number is 0.
 fn held_row_in(csv_record: &ByteRecord) -> Option<HeldRow>
     requires { length (fields_of csv_record.now) ≡ 4 }
     ensures { MatchOption result
@@ -210,8 +210,8 @@ pub enum HeldFault {
 }
 
 impl HeldFault {
-    /// What is wrong with the record, given the fault. `None` if memory was refused or the reader failed: then no
-    /// record is wrong.
+    /// What is wrong with the record at which the reading of an export ended with this fault. `None` if memory was refused or
+    /// the reader failed: then no record is wrong.
     pub fn of(fault: LoadFault) -> Option<HeldFault>
         ensures { result ≡ named fault }
     {

@@ -15,8 +15,9 @@ pub(crate) struct Mark {
 /// What is added to each price, so that it is above 0 whatever the votes.
 const BASE: u64 = 1 << 60;
 
-/// Logarithms, to any base and in any unit, each at most 2^36: of twice the votes of each cell, row by row, and of the odd
-/// numbers from 1 to 801. Those of the odd numbers must not fall from one number to the next.
+/// Logarithms, to any base and in any unit, not necessarily exact, and each at most 2^36. `of_votes` has those of twice the votes
+/// of each cell, row by row, with any such number for a cell without votes. `of_odds` has those of the odd numbers from 1 to at
+/// least 801, and none of these is below the one before it.
 #[derive(Drop)]
 pub struct LogTable<'a> {
     pub of_votes: &'a [u64],
@@ -29,7 +30,8 @@ impl<'a> LogTable<'a> {
     ghost use Rattle.zh_decided.specs.Prices.{seat_price};
     ghost use Rattle.zh_decided.specs.Taken.{logs};
 
-    /// The price of a seat of the cell in this place. Its seats are numbered from 0.
+    /// The price of a seat of the cell in this place: 2^60, plus the logarithm of 2 `seat` + 1, less that of twice the cell's
+    /// votes. The seats of a cell are numbered from 0, and `seat` is at most 400.
     pub(crate) fn seat_price(&self, place: usize, seat: u32) -> u64
         requires place { place < length self.now.of_votes.now }
         requires seat { seat ≤ 400 }
@@ -57,7 +59,7 @@ impl<'a> PricedSeats<'a> {
     ghost use Rattle.zh_decided.specs.Levels as words;
     ghost use Rattle.zh_decided.specs.Taken.{priced_in};
 
-    /// The greatest potential that the cap and these columns allow a row.
+    /// The greatest potential that the cap and these columns allow a row. A column in which it has no votes allows any.
     pub(crate) fn row_mark(&self, bounds: Bounds, columns: &[Mark; LINES], row: usize) -> Mark
         requires columns { (g : ℕ) → g < self.now.question.now.columns → words.potential_at columns.now g ≤ 2 ^ 44 }
         requires row { row < self.now.question.now.rows }
@@ -84,7 +86,8 @@ impl<'a> PricedSeats<'a> {
         mark
     }
 
-    /// The greatest potential, at most `before`, that these rows allow a column.
+    /// The greatest potential, at most `before`, that these rows allow a column. A row that has no seat in it allows any. The
+    /// potential is 0 if a row would allow only a negative one.
     pub(crate) fn column_mark(
         &self,
         bounds: Bounds,

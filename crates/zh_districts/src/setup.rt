@@ -77,7 +77,7 @@ impl Model for Setup {
 impl Setup {
     ghost use Rattle.zh_districts.specs.Parts.{draft};
 
-    /// The set-up of these parts.
+    /// The set-up of these parts, which must be within its limits.
     pub fn assembled(parts: Draft) -> Setup
         requires { IsCanton (draft parts) }
         ensures { result ≡ draft parts }
@@ -106,7 +106,7 @@ impl Setup {
         self.house
     }
 
-    /// The number of constituencies.
+    /// The number of constituencies, 1 to 32.
     pub fn constituencies(&self) -> u32
         ensures count { result ≡ length self.now.constituencies }
         ensures limits { IsCanton self.now }
@@ -141,7 +141,7 @@ impl Setup {
         named.name.as_str()
     }
 
-    /// The number of municipalities.
+    /// The number of municipalities, 1 to 512.
     pub fn municipalities(&self) -> u32
         ensures count { result ≡ length self.now.municipalities }
         ensures limits { IsCanton self.now }
@@ -178,7 +178,7 @@ impl Setup {
         named.name.as_str()
     }
 
-    /// The number of groups.
+    /// The number of groups, 1 to 32.
     pub fn groups(&self) -> u32
         ensures count { result ≡ length self.now.groups }
         ensures limits { IsCanton self.now }

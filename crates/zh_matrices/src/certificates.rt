@@ -1,4 +1,5 @@
-//! Tests of a matrix of seats with its divisors. They show that it is a biproportional apportionment, without a search.
+//! Tests whether seats have their totals and follow from divisors, without a search. Seats that pass such a test, strict or
+//! weak, are a biproportional apportionment.
 ghost use Rattle.std.specs.Prelude.{◌≡◌, ℕ, ◌*◌, ◌^◌, ◌<◌, ◌≤◌, ◌↔◌, All, IsTrue, length, slice_index};
 ghost use Rattle.zh_divisors.specs.Sums.{sum_to};
 ghost use Rattle.zh_matrices.specs.Asked.{asked};
@@ -56,7 +57,8 @@ impl<'a> Trial<'a> {
     }
 }
 
-/// Whether the seats have the totals and follow from the divisors, which are in millionths, by this kind of rounding.
+/// Whether the seats have the totals and follow from the divisors by this kind of rounding. Divisors are in millionths, 1 to
+/// 10^18 for a row and 1 to 10^12 for a column.
 pub fn follows(
     rounding: Rounding,
     proposal: &Proposal<'_>,

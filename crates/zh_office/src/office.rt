@@ -34,11 +34,12 @@ const ROWS_LENGTH: usize = 11_000;
 
 /// The count of an election on a disk, and the batches of the desks that change it.
 ///
-/// Each call takes the disk, which must be the one that the office was opened on. After a fault of the device the office
-/// answers `reopen-disk` to each line that it can read and to each loading, until a new office is opened on the disk.
+/// The disk is lent to each call that may use it, and must be the one that the office was opened on. After a fault of the
+/// device the office answers `reopen-disk` to each line that it can read and to each loading, until a new office is opened on
+/// the disk.
 #[derive(Drop)]
 pub struct Office<'s> {
-    // the count; each call takes its disk
+    // the count, without its disk
     pub(crate) ledger: Ledger<'s>,
     // the batches of the desks
     pub(crate) desks: Desks,
@@ -72,7 +73,8 @@ fn row_bytes(alloc: Global) -> Result<Vec<u8>, AllocError>
 }
 
 impl<'s> Office<'s> {
-    /// Formats a disk, whatever it contains, so that it holds the empty count, as `Ledger::format` does.
+    /// Formats a disk, whatever it contains, as `Ledger::format` does. On success an honest disk holds the empty count of this
+    /// set-up. If memory is refused, the disk is not called.
     pub fn format<D: Disk>(alloc: Global, setup: &Setup, disk: &mut D) -> Result<(), FormatFault>
         ensures call { Call store_format_fails (MakesNew setup.now) (D.history disk.old) (D.history disk.new) result }
         ensures untouched { IsErrOf result FormatFault.Memory → disk.new ≡ disk.old }
@@ -80,7 +82,8 @@ impl<'s> Office<'s> {
         Ledger::format(alloc, setup, disk)
     }
 
-    /// Opens the office on a disk, as `Ledger::open` does. All memory is allocated before the first call of the disk.
+    /// Opens the office on a disk, as `Ledger::open` does. No desk has a batch. All memory that the opening needs is allocated
+    /// before the first call of the disk.
     pub fn open<D: Disk>(
         alloc: Global,
         setup: &'s Setup,
@@ -143,7 +146,8 @@ impl<'s> Office<'s> {
         }
     }
 
-    /// Writes the returns as comma-separated text, ordered by municipality and then by list, and returns the writer.
+    /// Writes what is held as comma-separated text, withdrawn lists included, and returns the writer. After the names of the
+    /// columns the records are ordered by municipality and then by list.
     pub fn export<W: Write + Drop>(&self, writer: W) -> Result<W, RecordFault>
         ensures { IfOk result (λ after. Appends (W.contents writer) (W.contents after) (export_text self.now.ledger.tally)) }
     {

@@ -22,10 +22,11 @@ use zh_text::WriteFault;
 pub enum TaskFault {
     /// A file could not be opened or created, with the cause.
     Unopened(TaskFile, FileCause),
-    /// A file could not be read. For a CSV file this means the first read of a load, or any read of a dry run.
+    /// A file was opened, but a read of it failed. When a CSV file is loaded, only its first read gives this fault, and a
+    /// later one gives `Refused`. In a dry run each read gives it.
     Unreadable(TaskFile),
     Setup(SetupRefusal),
-    /// The device failed while the disk was formatted.
+    /// The device failed while a disk was opened to be formatted, or while it was formatted.
     Device,
     /// Another program has the disk open.
     Busy,
@@ -50,7 +51,8 @@ pub enum TaskFault {
 }
 
 impl TaskFault {
-    /// Where the fault occurred, or its cause, as far as known.
+    /// Why a file could not be opened or created, the place of a fault of the set-up if it is known, or the length of a file
+    /// that is not a disk. `None` for all other faults.
     pub fn place(&self) -> Option<TaskPlace>
         ensures { result ≡ named_place self.now }
     {
@@ -65,7 +67,8 @@ impl TaskFault {
         }
     }
 
-    /// The file in which the fault occurred, if it was a file.
+    /// Which of the files of the task the fault is about. `None` if it is about none of them: refused memory, a table, the
+    /// input, the output, and `Refused`.
     pub fn file(&self) -> Option<TaskFile>
         ensures { result ≡ role_of self.now }
     {

@@ -26,9 +26,9 @@ pub struct SetupProblems {
     pub no_municipality: Vec<bool>,
     /// No list stands in it.
     pub no_list: Vec<bool>,
-    /// Its persons give it no seat.
+    /// Its persons give it no seat. If seats are tied, no constituency is marked.
     pub no_seat: Vec<bool>,
-    /// A seat is worth as much to it as to another constituency.
+    /// Seats are tied between it and another: the next seat of one of them is worth as much as the last seat of the other.
     pub tied_seats: Vec<bool>,
 }
 
@@ -101,7 +101,7 @@ fn without_list(alloc: Global, setup: &Setup) -> Result<Vec<bool>, AllocError>
     Ok(marks)
 }
 
-/// The problems that keep this set-up from giving seats.
+/// The problems that keep this set-up from giving seats. Fails if memory is refused.
 pub fn setup_problems(alloc: Global, setup: &Setup) -> Result<SetupProblems, AllocError>
     ensures problems { IfOk result (AreProblems setup.now) }
     ensures few { IfOk result HasFewMarks }
@@ -115,7 +115,7 @@ pub fn setup_problems(alloc: Global, setup: &Setup) -> Result<SetupProblems, All
     })
 }
 
-/// A line for standard error with the number of problems, and the command that lists them.
+/// The line for standard error, with its LF: how many problems there are, and which command lists them.
 pub fn problems_line(problems: &SetupProblems) -> ArrayVec<u8, 96>
     requires { HasFewMarks problems.now }
     ensures { result.items ≡ problems_line (problem_count problems.now) }
@@ -205,7 +205,7 @@ fn write_each_problem<W: Write + Drop>(
     Ok(())
 }
 
-/// Writes the table of these problems.
+/// Writes the table of these problems, after the names of its columns, and returns the writer.
 pub(crate) fn write_problems<W: Write + Drop>(
     setup: &Setup,
     problems: &SetupProblems,

@@ -6,8 +6,8 @@ ghost use Rattle.zh_upper.specs.VoterNumbers.{RoundsHalfUp, voter_number, AreVot
 use std::alloc::{AllocError, Global};
 use zh_totals::Totals;
 
-/// The voter number of a list: its votes over the seats of its constituency, rounded to the nearest whole
-/// number, a half up (GPR section 103).
+/// The voter number of a list: its votes, at most 10^14, over the seats of its constituency, at least 1, rounded to the nearest
+/// whole number, a half up (GPR section 103). It is at most the votes.
 pub fn voter_number(votes: u64, seats: u32) -> u64
     requires small { votes ≤ 10 ^ 14 }
     requires seated { 1 ≤ seats }
@@ -19,7 +19,7 @@ pub fn voter_number(votes: u64, seats: u32) -> u64
     (2 * votes + seats) / (2 * seats)
 }
 
-/// The voter numbers of the lists of a group, added over all constituencies.
+/// The voter numbers of the lists of a group, added over all constituencies: at most 10^14.
 fn voter_sum(totals: &Totals, seats: &[u32], group: u32) -> u64
     requires limits { AreTotals totals.now }
     requires one_each { length seats.now ≡ length totals.now.canton.constituencies }
@@ -37,8 +37,8 @@ fn voter_sum(totals: &Totals, seats: &[u32], group: u32) -> u64
     voters
 }
 
-/// The voter sum of each group, given the seats of each constituency, at least 1 each. The voter number of each list
-/// is rounded before the numbers are added (GPR section 103).
+/// The voter sum of each group, in order and at most 10^14 each, given the seats of each constituency, at least 1 each. The
+/// voter number of each list is rounded before the numbers are added (GPR section 103). Fails if memory is refused.
 pub fn voters(alloc: Global, totals: &Totals, seats: &[u32]) -> Result<Vec<u64>, AllocError>
     requires one_each { length seats.now ≡ length totals.now.canton.constituencies }
     requires each_seated { All (λ r. 1 ≤ r) seats.now }

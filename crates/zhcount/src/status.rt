@@ -26,8 +26,9 @@ fn after_name(all: &[String]) -> &[String]
     }
 }
 
-/// Runs the program on the arguments after its name and returns its status as the exit code of the process. If the arguments
-/// can't be read, it reports why and does nothing else.
+/// Runs the program on the arguments after its name. Returns its status, 0 to 2, as the exit code of the process, and what the
+/// task hands over. If the arguments can't be read, it reports why and does nothing else. The status is then 2 if one of them is
+/// not UTF-8, and 1 if memory was refused.
 pub(crate) fn run<I: Read, O: Write, E: Write, F: Files>(
     alloc: Global,
     arguments: io::Result<Vec<String>>,
