@@ -63,14 +63,16 @@ pub enum Task<'a> {
     Version,
 }
 
-/// The value given after `--name`, or an empty text if there is none. clap refuses a command without a required value.
+/// The value given after `--name`, a path or not, or an empty text if there is none. clap refuses a command that lacks a
+/// required value.
 pub(crate) fn path_in<'a>(given: &ArgMatches<'a>, name: &str) -> &'a str
     ensures { result.now ≡ path_in name.now (rows_of (found_of given.now)) }
 {
     given.get_str(name).unwrap_or("")
 }
 
-/// The given paths of a set-up and a disk. The command requires both.
+/// The given paths of a set-up and a disk. clap refuses a command that lacks a required one. `seats`, for which the disk is
+/// optional, calls this only if a disk was given.
 pub(crate) fn paths_in<'a>(given: &ArgMatches<'a>) -> Paths<'a>
     ensures { ArePaths (rows_of (found_of given.now)) result }
 {
@@ -80,7 +82,7 @@ pub(crate) fn paths_in<'a>(given: &ArgMatches<'a>) -> Paths<'a>
     }
 }
 
-/// The task that a command asks for. Without a command it is the rehearsal.
+/// The task that a command asks for, or how the command was misused. Without a command it is the rehearsal.
 fn task_for<'a>(command: Option<(&'a str, &ArgMatches<'a>)>) -> Result<Task<'a>, Misuse>
     ensures { MatchResult result
         (Names (option_map (λ given. (given.0.now, rows_of (found_of given.1.now))) command.entry))
@@ -148,8 +150,8 @@ pub fn read_arguments<'a>(alloc: Global, arguments: &'a [String]) -> Result<Task
 /// How a command that clap accepts was misused.
 #[derive(Clone, Copy)]
 pub(crate) enum Misuse {
-    /// The `--of` of `list` is not the name of a table. Or `--municipality` or `--constituency` is not a numeral, is given for
-    /// a table other than the returns, or is given together with the other.
+    /// The `--of` of `list` is not the name of a table. Or `--municipality` or `--constituency` is not a number below 2^32
+    /// (without a sign or a leading zero), is given for a table other than the returns, or is given together with the other.
     Table,
     /// `status` has more than one of its three flags.
     Flags,

@@ -19,7 +19,7 @@ pub(crate) fn reaches_quorum(totals: &Totals, constituency: u32, group: u32) -> 
     votes > 0 && 100 * votes >= 5 * totals.constituency(constituency)
 }
 
-/// The votes of a group in all constituencies.
+/// The votes of a group, added over all constituencies.
 pub(crate) fn group_votes(totals: &Totals, group: u32) -> u64
     requires from_one { 1 ≤ group }
     requires there { group ≤ length totals.now.canton.groups }
@@ -32,7 +32,7 @@ pub(crate) fn group_votes(totals: &Totals, group: u32) -> u64
     votes
 }
 
-/// The votes of all groups in all constituencies.
+/// The votes of all groups, added over all constituencies.
 pub(crate) fn all_votes(totals: &Totals) -> u64
     ensures { result ≡ all_votes totals.now }
 {

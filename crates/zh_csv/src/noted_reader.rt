@@ -1,4 +1,4 @@
-//! A reader that notes whether a read failed. From then on every read fails.
+//! A reader that notes when a read fails. After that every read fails.
 
 ghost use Rattle.std.specs.Prelude.{◌≡◌, ◌↔◌, ◌⊎◌, true, false, IsErr};
 ghost use Rattle.std.specs.Io.{ReadsAtMost};
@@ -7,10 +7,10 @@ ghost use Rattle.zh_csv.specs.Noted.{has_failed, inner_reader};
 
 use std::io::{ErrorKind, Read, Result};
 
-/// A reader that notes whether a read failed.
+/// A reader that notes when a read fails.
 ///
-/// Only a read that fails sets the note, and nothing clears it. Once it is set, every read fails, and the underlying
-/// reader is not called any more.
+/// Every error counts as a failure, that of an interrupted read too. Nothing clears the note. Once it is set, every read
+/// fails, and the underlying reader is not called any more.
 #[derive(Drop)]
 pub struct NotedReader<R> {
     inner: R,
@@ -29,7 +29,7 @@ impl<R: Read> NotedReader<R> {
         }
     }
 
-    /// Whether a read failed.
+    /// Whether a read has failed so far.
     pub fn has_failed(&self) -> bool
         ensures { result ≡ has_failed self.now }
     {

@@ -20,8 +20,8 @@ use zh_disk::Disk;
 
 /// The records of one area of a disk: where the area begins, the page at which its records end, and how many there are.
 ///
-/// A call that uses the disk takes it as an argument, which must be the disk on which the area was opened. After a device
-/// fault, open the area again.
+/// A call that uses the disk takes it as an argument, which must be the disk on which the area was opened. If `append` meets a
+/// device fault, open the area again.
 #[derive(Drop)]
 pub struct Area {
     base: u64,
@@ -43,8 +43,8 @@ impl Model for Area {
 }
 
 impl Area {
-    /// Finds the records of the area that begins at this place. Reads the area once, into the caller's `pages`, and writes
-    /// nothing.
+    /// Finds the records of the area that begins at this place. Returns the area with a reader, which goes through its records
+    /// in order. Reads the area once, into `pages`, which the reader keeps, and writes nothing.
     pub fn open<D: Disk>(
         disk: &mut D,
         base: u64,
@@ -76,7 +76,7 @@ impl Area {
         self.count
     }
 
-    /// The number of pages after the last record.
+    /// The number of pages after the last record, from 0 to 1,024.
     pub fn pages_left(&self) -> u32
         ensures left { result ≡ pages_left self.now }
         ensures all { self.now.end + result ≡ AREA_PAGES }
@@ -110,6 +110,9 @@ impl Area {
 
     /// Appends a record: writes bytes 1 to 255 of each of its pages, syncs, opens the gate of its first page, and syncs
     /// again.
+    ///
+    /// If too few pages are left, the fault is `Full` and nothing changes. If the fault is `Device`, the disk can hold the
+    /// record or not, and the area is without it.
     pub fn append<D: Disk>(&mut self, disk: &mut D, payload: &[u8]) -> Result<(), AppendFault>
         requires some { 1 ≤ length payload.now }
         requires most { length payload.now ≤ LONGEST_PAYLOAD }
@@ -160,7 +163,8 @@ pub(crate) struct Extent {
     pub(crate) count: u32,
 }
 
-/// Where the records in these pages end, and how many there are. `None` if a first page is damaged.
+/// Where the records in these pages end, and how many there are. `None` if a page at which the next record would begin has an
+/// open gate and breaks a rule of the format.
 pub(crate) fn extent_of(pages: &[u8]) -> Option<Extent>
     requires { length pages.now ≡ AREA_LENGTH }
 

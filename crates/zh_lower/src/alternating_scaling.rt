@@ -69,6 +69,7 @@ impl SearchRoom {
     }
 }
 
+/// The most rounds of a search.
 const ROUNDS: u32 = 1000;
 
 /// A half-step of the columns. `room` must contain the quotients of the state before it.
@@ -103,7 +104,7 @@ fn step_rows(question: &Question<'_>, state: &mut SearchState, room: &SearchRoom
     );
 }
 
-/// The start: each row gets its divisor by the rule of a line.
+/// The start: each row gets its divisor by the rule of a line (`line`), with the divisor 1 for every column.
 fn start_rows(question: &Question<'_>, state: &mut SearchState)
     requires proper { IsProper (asked question.now) }
     requires unstarted { IsBeforeStart (asked question.now) state.old }
@@ -136,7 +137,7 @@ fn round(question: &Question<'_>, state: &mut SearchState, room: &mut SearchRoom
     end_test(question, state, room)
 }
 
-/// The end test at the start, and then the rounds.
+/// The end test at the start, and then up to 1,000 rounds. `None` if none of these 2,001 states ends the search.
 fn rounds(question: &Question<'_>, state: &mut SearchState, room: &mut SearchRoom) -> Option<Ending>
     requires proper { IsProper (asked question.now) }
     requires limits { AreWithinLimits (asked question.now) state.old.of_rows.items state.old.of_columns.items }
@@ -160,8 +161,10 @@ fn rounds(question: &Question<'_>, state: &mut SearchState, room: &mut SearchRoo
     None
 }
 
-/// The search. It starts with all columns at 1. `None` if no state of it gives seats or is tied. Otherwise `state` is the first
-/// state that ends the search, and `room` contains the seats that were found, or both matrices of the tie.
+/// The search: from the start, with the divisor 1 for every column, through up to 1,000 rounds. All divisors are in millionths.
+///
+/// `None` if none of the 2,001 states gives seats or is tied. Otherwise `state` is the first that gives seats or is tied, and
+/// `room` contains the seats that were found, or both matrices of the tie.
 pub fn search(
     question: &Question<'_>,
     state: &mut SearchState,

@@ -54,7 +54,7 @@ fn submit<D: Disk>(ledger: &mut Ledger<'_>, disk: &mut D, command: &Command<'_>)
 }
 
 /// Submits these rows, at least one, as a single command of this desk and reports its outcome. Desk 0 means that no desk
-/// sent the rows. `bytes` is room for them.
+/// sent the rows. `bytes` is room for the rows of any batch: at least 11,000 bytes.
 pub(crate) fn submit_rows<D: Disk>(
     ledger: &mut Ledger<'_>,
     disk: &mut D,
@@ -101,8 +101,11 @@ fn commit<D: Disk>(
 }
 
 impl<'s> Office<'s> {
-    /// Answers a desk's request: submits a command, and answers every other request from memory. After a fault of the
-    /// device every answer is `reopen-disk`.
+    /// Answers a desk's request: submits the command that it gives (for a commit the desk's batch, if that has a row), and
+    /// answers every other request from memory. Of the batches, only that of this desk can change.
+    ///
+    /// The disk is as it was unless the answer is `stored` or `device`. After `device` every later request is answered
+    /// `reopen-disk`.
     pub(crate) fn answer_to<D: Disk>(&mut self, disk: &mut D, line: Line) -> Answer<'s>
         requires { IsRequest line.request }
         ensures acts { Acts (on_disk self.old.ledger (D.history disk.old))

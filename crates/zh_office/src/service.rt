@@ -82,7 +82,8 @@ impl<'s> Office<'s> {
         }
     }
 
-    /// Answers a line, then writes the answer under the number of the desk that asked.
+    /// Answers a line, then writes the answer under the number of the desk that asked, or 0 if the line does not begin with
+    /// that of a desk.
     fn answer<R: Read, W: Write, D: Disk>(
         &mut self,
         bytes: &[u8],
@@ -111,8 +112,8 @@ impl<'s> Office<'s> {
         Ok(())
     }
 
-    /// Answers the lines that end in a block, the first of which begins with `line`, and keeps the bytes of the line after
-    /// them in `line`. Returns how many lines it answered.
+    /// Answers the lines that end in a block; the first of them begins with the bytes in `line`. Then `line` contains the
+    /// bytes of the line that has not ended, at most its first 121. Returns how many lines it answered.
     fn take_block<R: Read, W: Write, D: Disk>(
         &mut self,
         line: &mut PartialLine,
@@ -179,11 +180,12 @@ impl<'s> Office<'s> {
     }
 
     /// Answers the lines of a reader until its end, in at most `turns` reads of up to 8,192 bytes. Returns the number of
-    /// lines.
+    /// lines, or 2^64 - 1 if there are more.
     ///
     /// If the reader fails, or the reads are used up before one meets the end of the input, the lines that had ended by
     /// then are answered, and a line that had not ended is not. If the writer fails, a proper prefix of the answers is
-    /// written. An interrupted read or write is an error.
+    /// written; the line whose answer is cut short has been carried out, and no line after it. An interrupted read or write
+    /// counts as a failure.
     ///
     /// The film, which must be empty, notes the order of these events: the disk has carried out a line before its answer is
     /// written, and a line is answered before the next one is carried out and before more is read.
@@ -201,12 +203,12 @@ impl<'s> Office<'s> {
             (session (W.contents writer.new) self.new (D.history disk.new)
             (R.remaining reader.new) (frames R.Read W.Write D.Disk film.new))
             result }
-        // The latest frame of the film is of a failed read exactly if serving ends with that fault.
+        // The latest frame of the film is of a failed read exactly if serving ends with the fault `Read`.
         ensures failed { HasFailedRead (frames R.Read W.Write D.Disk film.new) ↔ IsErrOf result ServeFault.Read }
         // However serving ends, the history of the disk continues from the one before, and its count of failures does not
         // fall.
         ensures disk { Continues (on_disk self.old.ledger (D.history disk.old)) (on_disk self.new.ledger (D.history disk.new)) }
-        // If serving ends for lack of reads, all allowed reads were made. It never makes more. Each read takes at least one
+        // At most `turns` reads are made, and exactly that many if serving ends for lack of reads. Each read takes at least one
         // byte, except possibly the last.
         ensures reads { IsReadWithin result (frames R.Read W.Write D.Disk film.new)
             (R.remaining reader.old) (R.remaining reader.new) turns }

@@ -29,8 +29,10 @@ pub(crate) enum Shown {
     Nothing(Vec<u8>),
 }
 
-/// Writes what is shown. If the remark can't be written to standard error, the result is the same: the text was written, or
-/// the fault is `Refused`.
+/// Writes what is shown: first a text, then a remark or the reason why there is no text. The fault is `Write` if the text
+/// can't be written whole, and then no remark is written; it is `Refused` if there is no text.
+///
+/// If the remark or the reason can't be written whole to standard error, the result is the same, and the world notes it.
 pub(crate) fn write_shown<I: Read, O: Write, E: Write, F: Files>(
     shown: &Shown,
     world: &mut World<I, O, E, F>,
@@ -52,7 +54,7 @@ pub(crate) fn write_shown<I: Read, O: Write, E: Write, F: Files>(
     Ok(())
 }
 
-/// The records of the seats, as text.
+/// The seats as CSV: by list, by group or by constituency.
 fn records_of(alloc: Global, seats: &MarkedSheet<'_>, of: SeatsOf) -> Result<Vec<u8>, TaskFault>
     ensures text { IfOk result (λ text. text.items ≡ seat_records of seats.now) }
     ensures fault { IfErr result (λ fault. fault ≡ faults.Memory) }
@@ -73,7 +75,7 @@ fn records_of(alloc: Global, seats: &MarkedSheet<'_>, of: SeatsOf) -> Result<Vec
     }
 }
 
-/// The seats as a table for people.
+/// The seats as a table for people: by list, by group or by constituency.
 fn table_of(alloc: Global, seats: &MarkedSheet<'_>, of: SeatsOf) -> Result<Vec<u8>, TaskFault>
     ensures text { IfOk result (λ text. text.items ≡ seat_table of seats.now) }
     ensures fault { IfErr result (λ fault. fault ≡ faults.Memory) }
@@ -94,7 +96,7 @@ fn table_of(alloc: Global, seats: &MarkedSheet<'_>, of: SeatsOf) -> Result<Vec<u
     }
 }
 
-/// The seats in this layout, as records or as a table.
+/// The seats in this layout, as CSV or as a table. The only fault is refused memory.
 pub(crate) fn text_of(
     alloc: Global,
     seats: &MarkedSheet<'_>,
@@ -110,14 +112,14 @@ pub(crate) fn text_of(
     }
 }
 
-/// The reason why there are no seats, as text for standard error.
+/// The reason why there are no seats, as text for standard error. The only fault is refused memory.
 pub(crate) fn shown_reason(alloc: Global, setup: &Setup, why: &NoSeats) -> Result<Shown, TaskFault>
     ensures { GivesShown (IsShownReason setup.now why.now) result }
 {
     Ok(Shown::Nothing(refusal_text(alloc, setup, why)?))
 }
 
-/// The seats in this layout, or the reason why there are none.
+/// The seats in this layout, or the reason why there are none. The only fault is refused memory.
 pub(crate) fn shown_seats(
     alloc: Global,
     setup: &Setup,

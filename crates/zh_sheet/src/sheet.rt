@@ -14,7 +14,7 @@ use zh_upper::{Upper, voter_number};
 /// The distribution of the seats of an election, with everything that it follows from (GPR sections 88 and 102 to 104): the
 /// votes, the seats of the constituencies and of the groups with their divisors, and the seats of each list.
 ///
-/// Each sheet meets the definitions; `setup` ensures this.
+/// Each sheet meets the definitions: a clause of `setup` says so. Constituencies and groups are numbered from 1.
 #[derive(Drop)]
 pub struct Sheet<'s> {
     pub(crate) totals: Totals<'s>,
@@ -46,7 +46,8 @@ impl<'s> Sheet<'s> {
     ghost use Rattle.zh_totals.specs.Totals.{votes_in};
     ghost use Rattle.zh_upper.specs.VoterNumbers.{voter_number};
 
-    /// The sheet with these seats and divisors of the lists, which follow from what was asked.
+    /// The sheet with these seats of the lists, which follow from what was asked with the divisors in `lower`. The divisors
+    /// must be in millionths.
     pub(crate) fn with_lists(totals: Totals<'s>, asked: ListQuestion, lower: Lower) -> Sheet<'s>
         requires asked { IsAsked totals asked }
         requires follow { DoFollow (question_in asked) lower }
@@ -109,7 +110,7 @@ impl<'s> Sheet<'s> {
         self.seats.seats()[(constituency - 1) as usize]
     }
 
-    /// The divisor of a constituency in millionths.
+    /// The divisor of a constituency for the seats of its lists, in millionths.
     pub fn constituency_divisor(&self, constituency: u32) -> u64
         requires from_one { 1 ≤ constituency }
         requires there { constituency ≤ length self.now.totals.canton.constituencies }
@@ -118,7 +119,7 @@ impl<'s> Sheet<'s> {
         self.lower.row_divisor(constituency)
     }
 
-    /// The name of a constituency.
+    /// The name of a constituency, at most 40 bytes.
     pub fn constituency_name(&self, constituency: u32) -> &str
         requires from_one { 1 ≤ constituency }
         requires there { constituency ≤ length self.now.totals.canton.constituencies }
@@ -168,7 +169,7 @@ impl<'s> Sheet<'s> {
         column_of(&self.seated, group)
     }
 
-    /// The divisor of a group in millionths. None if it has no seats.
+    /// The divisor of a group for the seats of its lists, in millionths. None if it has no seats.
     pub fn group_divisor(&self, group: u32) -> Option<u64>
         ensures { result ≡ option_map_or (λ column. Some (slice_index self.now.lower.divisors.of_columns column))
             (column_of self.now group) None }
@@ -177,7 +178,7 @@ impl<'s> Sheet<'s> {
         Some(self.lower.column_divisor(column as u32 + 1))
     }
 
-    /// The name of a group.
+    /// The name of a group, at most 40 bytes.
     pub fn group_name(&self, group: u32) -> &str
         requires from_one { 1 ≤ group }
         requires there { group ≤ length self.now.totals.canton.groups }
@@ -187,7 +188,8 @@ impl<'s> Sheet<'s> {
         self.setup().group_name(group)
     }
 
-    /// The voter number of a list. None if its group does not take part.
+    /// The voter number of a list: its votes over the seats of its constituency, rounded half up. None if its group does not
+    /// take part.
     pub fn list_voters(&self, constituency: u32, group: u32) -> Option<u64>
         requires from_one { 1 ≤ constituency }
         requires there { constituency ≤ length self.now.totals.canton.constituencies }

@@ -64,7 +64,7 @@ impl Model for Store {
 
 impl Store {
     /// Opens the store on a disk. Returns it with a reader, which goes through its records in order. Allocates memory, then
-    /// syncs the disk, and after that only reads. The journal is read once.
+    /// syncs the disk, and after that only reads. The journal is read once. If memory is refused, the disk is untouched.
     pub fn open<D: Disk>(alloc: Global, disk: &mut D) -> Result<(Store, Reader), OpenFault>
         ensures call { Call store_open_fails OpensStore (D.history disk.old) (D.history disk.new) result }
         ensures whole { IfOk result (λ opened. opened.0.broken ≡ false) }
@@ -175,14 +175,15 @@ impl Store {
         self.area.pages_left()
     }
 
-    /// The generation of the snapshot. Formatting begins at 1, and each switch adds 1.
+    /// The generation of the snapshot. Formatting begins at 1, and each switch adds 1, up to 2^64 - 1.
     pub fn generation(&self) -> u64
         ensures { result ≡ self.now.generation }
     {
         self.generation
     }
 
-    /// Appends a record, as `Area::append` does.
+    /// Appends a record, as `Area::append` does. If the fault is `Device`, the store is broken from then on. If it is `Broken`
+    /// or `Full`, nothing changes.
     pub fn append<D: Disk>(&mut self, disk: &mut D, payload: &[u8]) -> Result<(), AppendFault>
         requires some { 1 ≤ length payload.now }
         requires most { length payload.now ≤ LONGEST_PAYLOAD }

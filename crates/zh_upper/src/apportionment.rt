@@ -31,8 +31,11 @@ fn shares_of(alloc: Global, sums: &[u64], house: u32) -> Result<Shares, ShareFau
     apportion(alloc, &weights, house)
 }
 
-/// The seats of each group, which add up to the house, in proportion to the voter sums of the groups that take part (GPR
-/// section 103), with the divisor. The other groups are left out and get no seats.
+/// The seats of the house, apportioned to the groups that take part in proportion to their voter sums (GPR section 103), with
+/// the divisor. Each other group gets 0 seats.
+///
+/// The groups get no seats if no group takes part, if the voter sums of all groups that do are 0, or if the seats are tied. The
+/// first of these cases that holds, in this order, is the fault. In place of any answer, the fault can be refused memory.
 pub fn upper(
     alloc: Global,
     voters: &[u64],

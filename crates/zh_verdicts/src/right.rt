@@ -8,7 +8,7 @@ use zh_check::RightSheet;
 use zh_tables::HeldRows;
 use zh_text::push_number;
 
-/// Appends the number of rows and the number of returns due.
+/// Appends `H of D rows`: the number of rows that are held, and the number of returns that are due.
 pub(crate) fn push_rows(text: &mut Vec<u8>, rows: HeldRows) -> Result<(), AllocError>
     ensures { OnOk result (text.new.items ≡ text.old.items ++ rows_part rows) }
 {
@@ -41,7 +41,8 @@ pub(crate) fn push_form_and_votes(
     push_votes(text, held)
 }
 
-/// Appends the lines of the further parts that are right, given what the first line that differs should be.
+/// Appends the lines of further parts that are right: of the seats and the participation if the first line that differs should
+/// be that of a list, of the seats only if it should be that of a group, otherwise none. `should` is what that line should be.
 pub(crate) fn push_parts_above(text: &mut Vec<u8>, should: &[u8]) -> Result<(), AllocError>
     ensures { OnOk result (text.new.items ≡ text.old.items ++ parts_above should.now) }
 {
@@ -81,7 +82,7 @@ fn push_commands(text: &mut Vec<u8>, accepted: u64) -> Result<(), AllocError>
     push_number(text, accepted)
 }
 
-/// Appends the desk and a line feed.
+/// Appends which desk asked for the sheet, and LF.
 fn push_desk(text: &mut Vec<u8>, desk: u8) -> Result<(), AllocError>
     ensures { OnOk result (text.new.items ≡ text.old.items ++ desk_part desk) }
 {
