@@ -13,7 +13,7 @@ pub record Always (IsLeft : List ℕ → Type 0) (old new : Trail) : Type 0 wher
   pub each : All (λ m. (c : List ℕ) → IsImage m c → IsLeft c) (between ++ old.now ∷ [])
 
 -- An image opens to this count: it represents this count, and no other count of its set-up. The law `reopenings` says that no
--- opening of it can then be refused, except for memory or by the device.
+-- opening of it with this set-up can then be refused, except for memory or by the device.
 pub record OpensTo (count : Tally) (c : List ℕ) : Type 0 where
   pub stands : HoldsFramed count c
   pub only : (other : Tally) → other.canton ≡ count.canton → HoldsFramed other c → other ≡ count

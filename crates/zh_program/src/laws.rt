@@ -130,7 +130,8 @@ pub fn opening_excludes<F: Files>()
         → Holds tally bytes → F.left new c → ¬ F.left old c → ¬ Holds tally c → ⊥ }
 {}
 
-/// Opening an image that opens to a count gives that count, or is refused for memory or by the device.
+/// Opening an image that opens to a count, with the set-up of that count, gives that count, or is refused for memory or by
+/// the device.
 pub fn reopenings()
     ensures ends { (count : Tally) (result : Result Ledger OpenFault) (old new : Trail) → OpensTo count old.now.bytes
         → Opens count.canton result old new
