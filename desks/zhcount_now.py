@@ -176,8 +176,8 @@ def made(setup: str, folder: str, commands: int, table: bytes, totals: str) -> D
         raise Stopped(f"the copy has not the {commands} commands of the log: {plain(sums)}")
     lines = list(csv.DictReader(io.StringIO(table.decode(), newline="")))
     line = "final" if any(it["answer"].startswith(f"sheet final {commands} ") for it in lines) else "sheet"  # as a desk has had it
-    files = {"lines.csv": table, "status": status, "sums": sums, "missing": program.done("status", "--missing")[0], "implausible": implausible,
-             "held.csv": held, "unconfirmed": unconfirmed(program, held, lines),
+    files = {"lines.csv": table, "status": status, "sums": sums, "missing": program.done("status", "--missing")[0],
+             "implausible": implausible, "held.csv": held, "unconfirmed": unconfirmed(program, held, lines),
              "votes.csv": program.done("votes")[0], "vote-groups.csv": program.done("votes", "--of", "groups")[0],
              **seats_of(program, line)}
     if totals:

@@ -71,7 +71,8 @@ def test_lines_before_the_child_reads():
         waits = f"    while os.path.exists({str(room.held)!r}):\n        time.sleep(0.02)\n"
         room.edit_script("zhcount_now.py", r"^    os\.nice\(", f"{waits}    os.nice(")
         room.start()
-        same("the answers meanwhile", ["stored 1", "stored 2"], room.ask(1, *RETURNS[:2]).out)
+        lines = [f"return 1 1 {number} 525" for number in range(1, 201)]  # more than the office writes at once
+        same("the answers meanwhile", [f"stored {number}" for number in range(1, 201)], room.ask(1, *lines).out)
         room.goes_on()
         compare(room, [], shown=0)
 
