@@ -34,7 +34,7 @@ pub(crate) fn check_command<'a>(
             alloc,
             "held",
             "FILE",
-            "The export of the same count, whose sums are compared with the votes",
+            "The export of the same count, to compare its sums with the votes",
         ))
 }
 

@@ -64,33 +64,27 @@ impl CommandName {
         ensures { result.0.now ≡ word_of self }
     {
         match self {
-            CommandName::Format => (
-                "format",
-                "Make a disk on which nothing has been returned yet",
-            ),
+            CommandName::Format => ("format", "Make a new disk, without returns"),
             CommandName::Run => (
                 "run",
-                "Answer the lines of the standard input, and keep the count on the disk",
+                "Answer the lines of standard input and keep the count on the disk",
             ),
             CommandName::Load => ("load", "Load the returns of a CSV file as one batch"),
             CommandName::Export => (
                 "export",
-                "Write what is held to the standard output, as CSV",
+                "Write the returns held to standard output, as CSV",
             ),
             CommandName::List => (
                 "list",
-                "Write a table of the set-up to the standard output, as CSV",
+                "Write a table of the set-up to standard output, as CSV",
             ),
-            CommandName::Status => ("status", "Write how far the returns have come in"),
-            CommandName::Votes => (
-                "votes",
-                "Write the votes so far to the standard output, as CSV",
-            ),
+            CommandName::Status => ("status", "Write how many returns are in"),
+            CommandName::Votes => ("votes", "Write the votes so far to standard output, as CSV"),
             CommandName::Check => (
                 "check",
                 "Check whether the seats of a published sheet follow from its votes",
             ),
-            CommandName::Seats => ("seats", "Write the seats to the standard output, as CSV"),
+            CommandName::Seats => ("seats", "Write the seats to standard output, as CSV"),
         }
     }
 

@@ -30,7 +30,7 @@ pub(crate) fn load_command<'a>(
         .arg(flag(
             alloc,
             "dry-run",
-            "Say what a load would do, and store nothing",
+            "Say what a load would do and store nothing",
         ))
 }
 

@@ -65,7 +65,7 @@ pub(crate) fn with_disk<'a>(
         alloc,
         "disk",
         "FILE",
-        "The disk that the count is kept on",
+        "The disk file with the count",
     ))
 }
 

@@ -47,11 +47,11 @@ fn with_source<'a>(alloc: Global, name: &'a str, about: &'a str) -> Result<Comma
     ensures { IfOk result (λ command. IsCommand command (command_taking name.now source_rules)) }
 {
     with_setup(alloc, name, about)?
-        .arg(option(alloc, "disk", "FILE", "The disk that the count is kept on"))?
+        .arg(option(alloc, "disk", "FILE", "The disk file with the count"))?
         .arg(flag(
             alloc,
             "final",
-            "Of the disk: refused where a municipality is open",
+            "The final seats: refused if a municipality is open",
         ))?
         .arg(option(
             alloc,
@@ -74,9 +74,9 @@ pub(crate) fn seats_command<'a>(
             alloc,
             "of",
             "ROWS",
-            "lists, unless it is given, groups or constituencies",
+            "lists (the default), groups or constituencies",
         ))?
-        .arg(flag(alloc, "table", "Lines and columns, to be printed"))
+        .arg(flag(alloc, "table", "A table for reading, not CSV"))
 }
 
 /// Whether a value was given.

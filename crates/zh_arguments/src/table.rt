@@ -30,8 +30,8 @@ pub(crate) fn list_command<'a>(
             "TABLE",
             "constituencies, municipalities, groups, lists, problems or returns",
         ))?
-        .arg(option(alloc, "municipality", "M", "Its returns alone"))?
-        .arg(option(alloc, "constituency", "D", "Its returns alone"))
+        .arg(option(alloc, "municipality", "M", "Only its returns"))?
+        .arg(option(alloc, "constituency", "D", "Only its returns"))
 }
 
 /// The number of a numeral, below 2^32, or `None` if the text is not one.

@@ -28,8 +28,8 @@ pub(crate) fn status_command<'a>(
             "constituencies",
             "By constituency, not by municipality",
         ))?
-        .arg(flag(alloc, "missing", "Each return that is not there"))?
-        .arg(flag(alloc, "implausible", "Votes that are hardly true"))
+        .arg(flag(alloc, "missing", "Each return that is missing"))?
+        .arg(flag(alloc, "implausible", "Votes that are hardly possible"))
 }
 
 /// Whether a flag was given. clap gives it the value `true` or `false`.

@@ -21,8 +21,8 @@ pub(crate) fn votes_command<'a>(
     ensures { IfOk result (λ command. IsCommand command (command_taking name.now (rules_of names.Votes))) }
 {
     with_disk(alloc, name, about)?
-        .arg(option(alloc, "of", "ROWS", "lists, unless it is given, or groups"))?
-        .arg(flag(alloc, "table", "Lines and columns, to be printed"))
+        .arg(option(alloc, "of", "ROWS", "lists (the default) or groups"))?
+        .arg(flag(alloc, "table", "A table for reading, not CSV"))
 }
 
 /// The kind of row with this name, if there is one.

@@ -6,7 +6,7 @@ use Rattle.std.proofs.lemmas.List.Sums.{count_by_more_no, count_by_more_yes}
 use Rattle.std.proofs.lemmas.Nat.{div-add-mod', mul-le}
 use Rattle.zh_districts.specs.Canton.{Canton, stands}
 use Rattle.zh_divisors.specs.Rounding.{Rounds}
-use Rattle.zh_matrices.proofs.CallerLemmas.{column_of, row_of}
+use Rattle.zh_divisors.proofs.CallerLemmas.{column_of, row_of}
 use Rattle.zh_check.specs.Cells.{DoSeatsFollow, LiesOnHalf, line_of_list}
 use Rattle.zh_check.specs.Reading.{standing, votes_read}
 use Rattle.zh_check.specs.declared.lists.ShownList.{ShownList}

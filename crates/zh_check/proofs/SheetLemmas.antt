@@ -10,6 +10,7 @@ use Rattle.std.proofs.lemmas.Nat.{mul-add-lt}
 use Rattle.std.proofs.lemmas.Simd.{map-map}
 use Rattle.std.proofs.Math.Nat.{min-eq_left}
 use Rattle.zh_districts.specs.Canton.{Canton, stands}
+use Rattle.zh_divisors.proofs.CallerLemmas.{same_table}
 use Rattle.zh_sheet.specs.Distribution.{Distribution, IsDistribution, seated_groups}
 use Rattle.zh_sheet.specs.Given.{IsPublished, given_lists}
 use Rattle.zh_sheet.specs.Readings.{column_of, list_seats}
@@ -33,7 +34,7 @@ use Rattle.zh_check.proofs.SectionLemmas.{group_numbers, kinds, only_first, only
 use Rattle.zh_check.proofs.ShownLemmas.{group_small, hidden_seats, row_small}
 use Rattle.zh_check.proofs.SizeLemmas.{length-votes}
 use Rattle.zh_check.proofs.SpelledLemmas.{last_spelled, spelled}
-use Rattle.zh_check.proofs.TableLemmas.{in_square, in_table, length-square, length-table, same_table, table}
+use Rattle.zh_check.proofs.TableLemmas.{in_square, in_table, length-square, length-table, table}
 use Rattle.zh_check.proofs.WordLemmas.{decimal_word, divisor_or_dash, divisor_word, is_final_word, kind_word, read-divisor, read-divisor_or_dash}
 
 -- the number that is read from a word that was written
@@ -58,10 +59,6 @@ kind_is false = refl
 
 kind_shown : (is_final : Bool) → is_final_word (leading_word (cond is_final (codes "final") (codes "provisional"))) ≡ is_final
 kind_shown is_final = ap is_final_word (word_alone (cond is_final (codes "final") (codes "provisional")) (kind_word is_final)) ∙ kind_is is_final
-
--- the text of each part of a sheet
-abbrev said : Distribution → ℕ → Bool → ℕ → SheetPart → List ℕ
-said x desk is_final accepted = part_text x (record { desk = desk; is_final = is_final; accepted = accepted })
 
 -- the numbers that the words of some lines give, and those of a table of lines
 listed : (number : List ℕ → ℕ) (word : ℕ → List ℕ) (xs : List ℕ) → ((k : ℕ) → k < length xs → number (word (k + 1)) ≡ get_or xs k 0) →
@@ -99,49 +96,54 @@ seats_shown x is d g row column true here =
 seats_shown x is d g row column false away =
     ap (λ n. min n 400) nothing_shown ∙ sym (hidden_seats x is (d + 1) (g + 1) (omega arith) (omega (arith, row)) (omega arith) (omega (arith, column)) away)
 
-module _ (x : Distribution) (desk : ℕ) (is_final : Bool) (accepted : ℕ) (is : IsDistribution x) (low : 1 ≤ desk) (high : desk ≤ 8) (small : accepted < 2 ^ 64) where
-  shown : All (IsShown x.totals.canton (said x desk is_final accepted)) (sheet_lines x.totals.canton)
+module _ (x : Distribution) (head : Head) (is : IsDistribution x) (low : 1 ≤ head.desk) (high : head.desk ≤ 8) (small : head.accepted < 2 ^ 64) where
+  abbrev its_text : List ℕ
+  its_text = sheet_text x head.desk head.is_final head.accepted
+
+  shown : All (IsShown x.totals.canton (part_text x head)) (sheet_lines x.totals.canton)
   shown =
-      let head : Head = record { desk = desk; is_final = is_final; accepted = accepted } in
-      all_shown x.totals.canton (said x desk is_final accepted) (spelled x is head low high small) (last_spelled x is head low high small) (sheet_lines x.totals.canton)
+      all_shown x.totals.canton (part_text x head) (spelled x is head low high small) (last_spelled x is head low high small) (sheet_lines x.totals.canton)
       (all_lines x.totals.canton is.totals.canton)
 
   -- the text is in the form of a sheet
-  pub sheet_formed : IsFormed x.totals.canton (sheet_text x desk is_final accepted)
-  sheet_formed = sym (lines_formed x.totals.canton (said x desk is_final accepted) (sheet_lines x.totals.canton) shown)
+  pub sheet_formed : IsFormed x.totals.canton its_text
+  sheet_formed = sym (lines_formed x.totals.canton (part_text x head) (sheet_lines x.totals.canton) shown)
 
   -- the words of a line at the parts of one kind
   abbrev in_line : (SheetPart → Bool) → SheetLine → List (List ℕ)
-  in_line test line = found_words (said x desk is_final accepted) test line
+  in_line test line = found_words (part_text x head) test line
 
   words : (test : SheetPart → Bool) (are : List (List ℕ)) → flat_map (in_line test) (sheet_lines x.totals.canton) ≡ are →
-      words_at test (sheet_lines x.totals.canton) (sheet_text x desk is_final accepted) ≡ are
-  words test are same = lines_read x.totals.canton (said x desk is_final accepted) test (sheet_lines x.totals.canton) shown ∙ same
+      words_at test (sheet_lines x.totals.canton) its_text ≡ are
+  words test are same = lines_read x.totals.canton (part_text x head) test (sheet_lines x.totals.canton) shown ∙ same
 
   -- the values of the first line
-  pub desk_is : (head_read x.totals.canton (sheet_text x desk is_final accepted)).desk ≡ desk
+  desk_is : (head_read x.totals.canton its_text).desk ≡ head.desk
   desk_is =
-      let first : List (List ℕ) = leading_word (decimal desk) ∷ [] in
-      ap (λ ws. latest 0 (map number_of_word ws))
+      let first : List (List ℕ) = leading_word (decimal head.desk) ∷ [] in
+      ap (λ ws. latest 0 (map (λ word. min (number_of_word word) 255) ws))
       (words (is_like Desk) first (kinds (in_line (is_like Desk)) x.totals.canton refl refl refl refl (λ n. refl) refl ∙ only_first x.totals.canton first))
-      ∙ number_shown desk (omega (arith, high))
+      ∙ ap (λ n. min n 255) (number_shown head.desk (omega (arith, high))) ∙ min-eq_left (omega (arith, high))
 
-  pub final_is : (head_read x.totals.canton (sheet_text x desk is_final accepted)).is_final ≡ is_final
+  final_is : (head_read x.totals.canton its_text).is_final ≡ head.is_final
   final_is =
-      let first : List (List ℕ) = leading_word (cond is_final (codes "final") (codes "provisional")) ∷ [] in
+      let first : List (List ℕ) = leading_word (cond head.is_final (codes "final") (codes "provisional")) ∷ [] in
       ap (λ ws. latest false (map is_final_word ws))
       (words (is_like Kind) first (kinds (in_line (is_like Kind)) x.totals.canton refl refl refl refl (λ n. refl) refl ∙ only_first x.totals.canton first))
-      ∙ kind_shown is_final
+      ∙ kind_shown head.is_final
 
-  pub accepted_is : (head_read x.totals.canton (sheet_text x desk is_final accepted)).accepted ≡ accepted
+  accepted_is : (head_read x.totals.canton its_text).accepted ≡ head.accepted
   accepted_is =
-      let first : List (List ℕ) = leading_word (decimal accepted) ∷ [] in
+      let first : List (List ℕ) = leading_word (decimal head.accepted) ∷ [] in
       ap (λ ws. latest 0 (map number_of_word ws))
       (words (is_like Accepted) first (kinds (in_line (is_like Accepted)) x.totals.canton refl refl refl refl (λ n. refl) refl ∙ only_first x.totals.canton first))
-      ∙ number_shown accepted small
+      ∙ number_shown head.accepted small
+
+  pub head_is : head_read x.totals.canton its_text ≡ head
+  head_is = λ i. record { desk = desk_is i; is_final = final_is i; accepted = accepted_is i }
 
   -- the divisors of the constituencies, and of the groups
-  rows_are : row_divisors_read x.totals.canton (sheet_text x desk is_final accepted) ≡ x.lower.divisors.of_rows
+  rows_are : row_divisors_read x.totals.canton its_text ≡ x.lower.divisors.of_rows
   rows_are =
       let rows : List ℕ = x.lower.divisors.of_rows in
       let f : ℕ → List ℕ = λ d. leading_word (divisor_text (get_or rows (d - 1) 0)) in
@@ -153,9 +155,9 @@ module _ (x : Distribution) (desk : ℕ) (is_final : Bool) (accepted : ℕ) (is 
       let place : k + 1 - 1 ≡ k = omega arith in
       divisor_shown (get_or rows (k + 1 - 1) 0) (row_small x is (k + 1 - 1)) ∙ ap (λ j. get_or rows j 0) place))
 
-  groups_are : group_divisors_read x.totals.canton (sheet_text x desk is_final accepted) ≡ group_divisors x (length x.totals.canton.groups)
+  groups_are : group_divisors_read x.totals.canton its_text ≡ group_divisors x (length x.totals.canton.groups)
   groups_are =
-      let f : ℕ → List ℕ = λ g. leading_word (said x desk is_final accepted (GroupDivisor g)) in
+      let f : ℕ → List ℕ = λ g. leading_word (part_text x head (GroupDivisor g)) in
       let test : SheetPart → Bool = is_like (GroupDivisor 0) in
       let same : (g : ℕ) → number_of_word (f g) ≡ divisor_or_0 x g
       = λ g. dash_shown (λ k. get_or x.lower.divisors.of_columns k 0) (column_of x g) (group_small x is g) in
@@ -164,14 +166,14 @@ module _ (x : Distribution) (desk : ℕ) (is_final : Bool) (accepted : ℕ) (is 
       ∙ (map-map number_of_word f (group_numbers x.totals.canton) ∙ (λ i. map (λ g. same g i) (group_numbers x.totals.canton)))
 
   -- the votes of the lists, and their seats
-  pub votes_are : IsPublished x → votes_read x.totals.canton (sheet_text x desk is_final accepted) ≡ x.totals.votes
+  pub votes_are : IsPublished x → votes_read x.totals.canton its_text ≡ x.totals.votes
   votes_are published =
       let m : ℕ = length x.totals.canton.constituencies in
       let n : ℕ = length x.totals.canton.groups in
       let f : ℕ → ℕ → List ℕ = λ d g. leading_word (cond (stands x.totals.canton d g) (decimal (votes_in x.totals d g)) []) in
       let test : SheetPart → Bool = is_like (ListVotes 0 0) in
       let read = words test (table f (range_with_len 1 n) m) (kinds (in_line test) x.totals.canton refl refl refl refl (λ n. refl) refl ∙ only_lists x.totals.canton f) in
-      same_table m n _ x.totals.votes (length-votes x.totals.canton (sheet_text x desk is_final accepted)) is.totals.one_each (λ d g row column.
+      same_table m n _ x.totals.votes (length-votes x.totals.canton its_text) is.totals.one_each (λ d g row column.
       let down : d + 1 - 1 ≡ d = omega arith in
       let along : g + 1 - 1 ≡ g = omega arith in
       ap (λ ws. get_or (map number_of_word ws) (d * n + g) 0) read
@@ -180,7 +182,7 @@ module _ (x : Distribution) (desk : ℕ) (is_final : Bool) (accepted : ℕ) (is 
       ∙ (ap (λ r. get_or x.totals.votes (r * n + (g + 1 - 1)) 0) down ∙ ap (λ c. get_or x.totals.votes (d * n + c) 0) along))))
 
   seats_are : IsPublished x → (d g : ℕ) → d < length x.totals.canton.constituencies → 1 ≤ g → g ≤ length x.totals.canton.groups →
-      get_or (seats_read x.totals.canton (sheet_text x desk is_final accepted)) (place_in x.totals.canton (d + 1) g) 0 ≡ list_seats x (d + 1) g
+      get_or (seats_read x.totals.canton its_text) (place_in x.totals.canton (d + 1) g) 0 ≡ list_seats x (d + 1) g
   seats_are published d g row from_one there =
       let m : ℕ = length x.totals.canton.constituencies in
       let n : ℕ = length x.totals.canton.groups in
@@ -197,11 +199,11 @@ module _ (x : Distribution) (desk : ℕ) (is_final : Bool) (accepted : ℕ) (is 
 
   -- the seats of the lists of groups with seats
   in_columns : IsPublished x →
-      seats_in_columns x.totals.canton (group_divisors x (length x.upper.seats)) (seats_read x.totals.canton (sheet_text x desk is_final accepted)) ≡ x.lower.seats
+      seats_in_columns x.totals.canton (group_divisors x (length x.upper.seats)) (seats_read x.totals.canton its_text) ≡ x.lower.seats
   in_columns published =
       let m : ℕ = length x.totals.canton.constituencies in
       let seated : List ℕ = seated_groups x.upper.seats in
-      let seats : List ℕ = seats_read x.totals.canton (sheet_text x desk is_final accepted) in
+      let seats : List ℕ = seats_read x.totals.canton its_text in
       let f : ℕ → ℕ → ℕ = λ d g. get_or seats (place_in x.totals.canton d g) 0 in
       ap (λ gs. table f gs m) (same_seated x is)
       ∙ same_table m (length seated) (table f seated m) x.lower.seats (length-table f seated m) is.lower.one_each (λ d j row column.
@@ -210,12 +212,11 @@ module _ (x : Distribution) (desk : ℕ) (is_final : Bool) (accepted : ℕ) (is 
       ∙ (seats_are published d (get_or seated j 0) row group.from_one (omega (arith, group.there, group_count x is)) ∙ seats_at x is d j column))
 
   -- the seats and the divisors of the lists
-  pub lower_is : IsPublished x → x.lower ≡ lists_read x.totals.canton (sheet_text x desk is_final accepted)
+  pub lower_is : IsPublished x → x.lower ≡ lists_read x.totals.canton its_text
   lower_is published =
       let canton : Canton = x.totals.canton in
-      let text : List ℕ = sheet_text x desk is_final accepted in
-      let divisors : group_divisors_read canton text ≡ group_divisors x (length x.upper.seats) = groups_are ∙ ap (group_divisors x) (sym (group_count x is)) in
-      let seats : seats_in_columns canton (group_divisors_read canton text) (seats_read canton text) ≡ x.lower.seats
-      = ap (λ ds. seats_in_columns canton ds (seats_read canton text)) divisors ∙ in_columns published in
-      let columns : column_divisors (group_divisors_read canton text) ≡ x.lower.divisors.of_columns = ap column_divisors divisors ∙ columns_are x is in
+      let divisors : group_divisors_read canton its_text ≡ group_divisors x (length x.upper.seats) = groups_are ∙ ap (group_divisors x) (sym (group_count x is)) in
+      let seats : seats_in_columns canton (group_divisors_read canton its_text) (seats_read canton its_text) ≡ x.lower.seats
+      = ap (λ ds. seats_in_columns canton ds (seats_read canton its_text)) divisors ∙ in_columns published in
+      let columns : column_divisors (group_divisors_read canton its_text) ≡ x.lower.divisors.of_columns = ap column_divisors divisors ∙ columns_are x is in
       ap (λ d. record { seats = x.lower.seats; divisors = d }) is.divisors ∙ (λ i. given_lists (sym seats i) (sym rows_are i) (sym columns i))

@@ -1,11 +1,9 @@
 -- Tables: for each constituency, in order, a value for each of some columns.
-use Rattle.std.proofs.Common.{◌≡◌, ℕ, ◌+◌, ◌*◌, ◌/◌, ◌%◌, ◌<◌, List, [], ◌∷◌, ◌++◌, length, get_or, map, flat_map, sym, ap, ◌∙◌, arith, mul_comm, append-nil}
+use Rattle.std.proofs.Common.{◌≡◌, ℕ, ◌+◌, ◌*◌, ◌<◌, List, [], ◌∷◌, ◌++◌, length, get_or, map, flat_map, sym, ap, ◌∙◌, arith, mul_comm, append-nil}
 use Rattle.std.specs.List.{range_with_len}
-use Rattle.std.proofs.lemmas.List.{ext_get_or, get_or-map, length-map}
+use Rattle.std.proofs.lemmas.List.{get_or-map, length-map}
 use Rattle.std.proofs.lemmas.List.Concat.{flat_map-append}
 use Rattle.std.proofs.lemmas.List.FromFn.{get_or-range_with_len, length-range_with_len}
-use Rattle.std.proofs.Math.Nat.{div-add-mod'}
-use Rattle.zh_matrices.proofs.CallerLemmas.{column_of, row_of}
 use Rattle.zh_returns.proofs.CallerLemmas.{HasWidth, in_block, length-blocks}
 use Rattle.zh_sheet.proofs.CallerLemmas.{numbers_more}
 
@@ -46,13 +44,3 @@ pub table_more : {A : Type 0} (f : ℕ → ℕ → A) (columns : List ℕ) (rows
 table_more f columns rows =
     ap (flat_map (λ (d : ℕ). map (f d) columns)) (numbers_more rows)
     ∙ (flat_map-append (λ (d : ℕ). map (f d) columns) (range_with_len 1 rows) ((rows + 1) ∷ []) ∙ ap (λ xs. table f columns rows ++ xs) (append-nil (map (f (rows + 1)) columns)))
-
--- two lists with the same number of rows and the same value at each place are equal
-pub same_table : (rows columns : ℕ) (xs all : List ℕ) → length xs ≡ rows * columns → length all ≡ rows * columns →
-    ((d g : ℕ) → d < rows → g < columns → get_or xs (d * columns + g) 0 ≡ get_or all (d * columns + g) 0) → xs ≡ all
-same_table rows columns xs all long whole each =
-    ext_get_or 0 xs all (long ∙ sym whole) (λ k lt.
-    let within : k < rows * columns = omega (arith, lt, long) in
-    let place : k / columns * columns + k % columns ≡ k = div-add-mod' k columns in
-    ap (λ p. get_or xs p 0) (sym place)
-    ∙ (each (k / columns) (k % columns) (row_of rows columns k within) (column_of rows columns k within) ∙ ap (λ p. get_or all p 0) place))

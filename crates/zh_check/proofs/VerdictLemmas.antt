@@ -1,5 +1,5 @@
 -- The sheet that is recomputed from a text, and the right sheet.
-use Rattle.std.proofs.Common.{◌≡◌, ◌≢◌, ℕ, ◌-◌, ◌^◌, ◌<◌, ◌≤◌, Bool, List, [], ◌∷◌, map, Option, Some, None, sym, ap, ◌∙◌, subst, arith}
+use Rattle.std.proofs.Common.{◌≡◌, ◌≢◌, ℕ, ◌-◌, ◌^◌, ◌<◌, ◌≤◌, List, [], ◌∷◌, map, Option, Some, None, sym, ap, ◌∙◌, subst, arith}
 use Rattle.std.specs.Prelude.{IfSome}
 use Rattle.zh_districts.specs.Canton.{Canton}
 use Rattle.zh_matrices.specs.SeatMatrix.{SeatMatrix}
@@ -7,6 +7,7 @@ use Rattle.zh_sheet.specs.Distribution.{Distribution}
 use Rattle.zh_sheet.specs.Given.{IsGiven, IsPublished}
 use Rattle.zh_sheet_text.specs.Layout.{sheet_lines}
 use Rattle.zh_totals.specs.Totals.{VoteTotals}
+use Rattle.zh_sheet_text.specs.declared.line.Head.{Head}
 use Rattle.zh_sheet_text.specs.declared.line.SheetPart.TheVariants.{Accepted}
 use Rattle.zh_check.specs.Lines.{number_of_word}
 use Rattle.zh_check.specs.Reading.{head_read, is_like, latest, lists_read, totals_read, words_at}
@@ -19,7 +20,7 @@ use Rattle.zh_check.specs.declared.checked.SheetVerdict.{SheetVerdict}
 use Rattle.zh_check.specs.declared.checked.SheetVerdict.TheVariants as verdicts
 use Rattle.zh_check.specs.declared.checked.WrongLine.{WrongLine}
 use Rattle.zh_check.specs.declared.checked.RightSheet.{RightSheet}
-use Rattle.zh_check.proofs.SheetLemmas.{accepted_is, desk_is, final_is, lower_is, sheet_formed, votes_are}
+use Rattle.zh_check.proofs.SheetLemmas.{head_is, lower_is, sheet_formed, votes_are}
 
 -- the seats do not follow
 pub no_sheet : (canton : Canton) (text : List ℕ) (totals : VoteTotals) (lists : SeatMatrix) → totals ≡ totals_read canton text → lists ≡ lists_read canton text →
@@ -30,27 +31,22 @@ no_sheet canton text totals lists votes seats given = record {
 }
 
 -- the sheet follows
-pub one_sheet : (canton : Canton) (text : List ℕ) (totals : VoteTotals) (lists : SeatMatrix) (x : Distribution) (desk : ℕ) (is_final : Bool) (accepted : ℕ) →
+pub one_sheet : (canton : Canton) (text : List ℕ) (totals : VoteTotals) (lists : SeatMatrix) (x : Distribution) (head : Head) →
     totals ≡ totals_read canton text → lists ≡ lists_read canton text → IsGiven totals lists (Some x) →
-    1 ≤ desk → desk ≤ 8 → desk ≡ (head_read canton text).desk → is_final ≡ (head_read canton text).is_final → accepted ≡ (head_read canton text).accepted →
-    FindsSheet canton text (Some (record { sheet = x; desk = desk; is_final = is_final; accepted = accepted }))
-one_sheet canton text totals lists x desk is_final accepted votes seats given low high desk_same final_same accepted_same = record {
+    (1 ≤ head.desk) × (head.desk ≤ 8) → head ≡ head_read canton text → FindsSheet canton text (Some (record { sheet = x; head = head }))
+one_sheet canton text totals lists x head votes seats given desk same = record {
   some = record {
     votes = given.votes ∙ votes;
     lists = given.seats ∙ seats;
     meets = given.meets;
-    desk = (low, high);
-    read = desk_same;
-    is_final = final_same;
-    accepted = accepted_same;
+    desk = desk;
+    head = same;
   };
   every = λ c is.
       let e : Some x ≡ Some c.sheet = given.every c.sheet is.meets (is.votes ∙ sym votes) (is.lists ∙ sym seats) in
       let sheet : x ≡ c.sheet = cc in
-      let desks : desk ≡ c.desk = desk_same ∙ sym is.read in
-      let kinds : is_final ≡ c.is_final = final_same ∙ sym is.is_final in
-      let counts : accepted ≡ c.accepted = accepted_same ∙ sym is.accepted in
-      λ i. Some (record { sheet = sheet i; desk = desks i; is_final = kinds i; accepted = counts i });
+      let heads : head ≡ c.head = same ∙ sym is.head in
+      λ i. Some (record { sheet = sheet i; head = heads i });
 }
 
 -- a number that is read is below 2 ^ 64
@@ -62,19 +58,17 @@ accepted_most : (canton : Canton) (text : List ℕ) → (head_read canton text).
 accepted_most canton text = latest_most 0 (words_at (is_like Accepted) (sheet_lines canton) text) (omega arith)
 
 -- a sheet can be recomputed from its own text
-own_text : (c : RightSheet) → (1 ≤ c.desk) × (c.desk ≤ 8) → c.accepted ≤ 2 ^ 64 - 1 → IsPublished c.sheet → IsRecomputed c.sheet.totals.canton (right_text c) c
+own_text : (c : RightSheet) → (1 ≤ c.head.desk) × (c.head.desk ≤ 8) → c.head.accepted ≤ 2 ^ 64 - 1 → IsPublished c.sheet →
+    IsRecomputed c.sheet.totals.canton (right_text c) c
 own_text c desk accepted published =
     let is = published.distribution in
-    let small : c.accepted < 2 ^ 64 = omega (arith, accepted) in
+    let small : c.head.accepted < 2 ^ 64 = omega (arith, accepted) in
     record {
-      votes = ap (λ v. record { canton = c.sheet.totals.canton; votes = v })
-          (sym (votes_are c.sheet c.desk c.is_final c.accepted is desk.0 desk.1 small published));
-      lists = lower_is c.sheet c.desk c.is_final c.accepted is desk.0 desk.1 small published;
+      votes = ap (λ v. record { canton = c.sheet.totals.canton; votes = v }) (sym (votes_are c.sheet c.head is desk.0 desk.1 small published));
+      lists = lower_is c.sheet c.head is desk.0 desk.1 small published;
       meets = published;
       desk = desk;
-      read = sym (desk_is c.sheet c.desk c.is_final c.accepted is desk.0 desk.1 small);
-      is_final = sym (final_is c.sheet c.desk c.is_final c.accepted is desk.0 desk.1 small);
-      accepted = sym (accepted_is c.sheet c.desk c.is_final c.accepted is desk.0 desk.1 small);
+      head = sym (head_is c.sheet c.head is desk.0 desk.1 small);
     }
 
 pub right_recomputed : (canton : Canton) (held : Option VoteTotals) (bytes : List ℕ) (c : RightSheet) → IsRight canton held bytes c → IsRecomputed canton bytes c
@@ -111,7 +105,7 @@ why_reason canton held bytes verdict parts found why = (parts, none_recomputed c
 right_formed : (canton : Canton) (held : Option VoteTotals) (bytes : List ℕ) (c : RightSheet) → IsRight canton held bytes c → IsFormed canton bytes
 right_formed canton held bytes c is =
     subst (λ text. IsFormed canton text) (sym is.text)
-    (subst (λ k. IsFormed k (right_text c)) is.same_setup (sheet_formed c.sheet c.desk c.is_final c.accepted is.meets.distribution is.desk.0 is.desk.1 (omega (arith, is.accepted))))
+    (subst (λ k. IsFormed k (right_text c)) is.same_setup (sheet_formed c.sheet c.head is.meets.distribution is.desk.0 is.desk.1 (omega (arith, is.accepted))))
 
 pub off_form : (canton : Canton) (held : Option VoteTotals) (bytes : List ℕ) (wrong : WrongLine) → IsOffForm canton bytes wrong →
     (c : RightSheet) → ¬ IsRight canton held bytes c
@@ -169,7 +163,7 @@ found_right canton held bytes r parts found printed =
     let is : IsRecomputed canton bytes r = found.some in
     record {
       desk = is.desk;
-      accepted = omega (arith, is.accepted, accepted_most canton bytes);
+      accepted = omega (arith, ap (λ h. h.accepted) is.head, accepted_most canton bytes);
       same_setup = ap (λ t. t.canton) is.votes;
       meets = is.meets;
       votes = read_votes canton held bytes r is parts.votes;

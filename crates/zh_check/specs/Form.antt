@@ -1,12 +1,14 @@
--- The form of a sheet: what its lines say whatever the votes are. The words that only votes can give are taken from the text.
+-- The form of a sheet: what its lines say by the set-up alone. The words that the set-up does not give are taken from the text if they are
+-- possible there; dots replace the others.
 use Rattle.std.specs.Prelude.{◌≡◌, ℕ, ◌==◌, ◌&&◌, ◌||◌, not, Bool, false, Option, Some, None, MatchOption, unwrap_or, if◌then◌else◌, codes}
 use Rattle.std.specs.Prelude.{List, [], ◌∷◌, ◌++◌, decimal, filter, length, nat_le}
 use Rattle.std.specs.Char.{is_ascii_digit}
 use Rattle.std.specs.List.{list_all}
 use Rattle.std.specs.Str.{bytes_eq}
 use Rattle.zh_districts.specs.Canton.{Canton}
+use Rattle.zh_record_text.specs.Names.{name_of_constituency, name_of_group}
 use Rattle.zh_sheet_text.specs.Layout.{SheetLine, label_text, mark_before, sheet_lines}
-use Rattle.zh_sheet_text.specs.SheetText.{constituency_name, divisor_text, group_name}
+use Rattle.zh_sheet_text.specs.SheetText.{divisor_text}
 use Rattle.zh_sheet_text.specs.declared.line.SheetPart.{SheetPart}
 use Rattle.zh_sheet_text.specs.declared.line.SheetPart.TheVariants.{Fixed, Number, Desk, Kind, Accepted, SeatsKey, UpperKey}
 use Rattle.zh_sheet_text.specs.declared.line.SheetPart.TheVariants.{ConstituencySeats, ConstituencyVotes, ConstituencyDivisor}
@@ -20,7 +22,7 @@ use Rattle.zh_check.specs.declared.checked.WrongLine.{WrongLine}
 abbrev pub is_number : List ℕ → Bool
 is_number word = bytes_eq word (decimal (number_of_word word))
 
--- such a number from low to high
+-- a number, written as sheets write it, from low to high
 abbrev pub is_number_from : ℕ → ℕ → List ℕ → Bool
 is_number_from low high word = is_number word && (nat_le low (number_of_word word) && nat_le (number_of_word word) high)
 
@@ -35,7 +37,8 @@ is_digit_or mark byte = is_ascii_digit byte || byte == mark
 abbrev pub is_made_of_digits : ℕ → List ℕ → Bool
 is_made_of_digits mark word = not (length word == 0) && list_all (is_digit_or mark) word
 
--- whether a word is possible at a part; if its number is read, the word has to be what a sheet writes for that number
+-- whether a word is possible at a part that the set-up does not give; if its number is read, the word has to be what a sheet writes for
+-- that number
 abbrev pub fits : SheetPart → List ℕ → Bool
 fits Desk word = is_number_from 1 8 word
 fits Kind word = bytes_eq word (codes "provisional") || bytes_eq word (codes "final")
@@ -66,8 +69,8 @@ filled part word = if fits part word then word else dots_for word
 abbrev pub known_text : Canton → SheetPart → Option (List ℕ)
 known_text canton (Fixed label) = Some (label_text label)
 known_text canton (Number n) = Some (decimal n)
-known_text canton (ConstituencyName d) = Some (constituency_name canton d)
-known_text canton (GroupName g) = Some (group_name canton g)
+known_text canton (ConstituencyName d) = Some (name_of_constituency canton d)
+known_text canton (GroupName g) = Some (name_of_group canton g)
 known_text canton part = None
 
 abbrev pub part_form : Canton → SheetPart → List ℕ → List ℕ
@@ -88,7 +91,7 @@ abbrev pub in_forms : Canton → List SheetLine → List ℕ → List ℕ
 in_forms canton [] text = []
 in_forms canton (line ∷ lines) text = line_form canton line text ++ in_forms canton lines (after_if line.is_there text)
 
--- the form of a sheet with the words of a text; with an empty text it has dots for each word that only votes can give
+-- the form of a sheet with the words of a text; with an empty text it has dots for each word that the set-up does not give
 abbrev pub formed : Canton → List ℕ → List ℕ
 formed canton text = in_forms canton (sheet_lines canton) text
 

@@ -9,12 +9,12 @@ use Rattle.zh_matrices.specs.SeatMatrix.{SeatMatrix}
 use Rattle.zh_sheet.specs.Distribution.{seated_groups}
 use Rattle.zh_sheet.specs.Given.{given_lists}
 use Rattle.zh_sheet_text.specs.Layout.{SheetLine, sheet_lines}
+use Rattle.zh_sheet_text.specs.declared.line.Head.{Head}
 use Rattle.zh_sheet_text.specs.declared.line.SheetPart.{SheetPart}
 use Rattle.zh_sheet_text.specs.declared.line.SheetPart.TheVariants.{Desk, Kind, Accepted, ConstituencyDivisor, GroupDivisor}
 use Rattle.zh_sheet_text.specs.declared.line.SheetPart.TheVariants.{ListVotes, ListSeats}
 use Rattle.zh_totals.specs.Totals.{VoteTotals, place_in}
 use Rattle.zh_check.specs.Lines.{after_if, after_word, leading_word, line_if, number_of_word}
-use Rattle.zh_check.specs.declared.recomputed.Head.{Head}
 use Rattle.zh_check.specs.declared.recomputed.Values.{Values}
 
 -- the words of a line at the parts that pass a test
@@ -28,7 +28,7 @@ words_at test [] text = []
 words_at test (line ∷ lines) text =
     words_in test line.parts (line_if line.is_there text) ++ words_at test lines (after_if line.is_there text)
 
--- the parts that are read have the same kind
+-- whether two parts are of the same kind, one of the seven that are read
 abbrev pub is_like : SheetPart → SheetPart → Bool
 is_like Desk Desk = true
 is_like Kind Kind = true
@@ -39,7 +39,7 @@ is_like (ListVotes d g) (ListVotes e h) = true
 is_like (ListSeats d g) (ListSeats e h) = true
 is_like part other = false
 
--- the last of some values, or the earlier one if there are none
+-- the last of some values, or `before` if there are none
 abbrev pub latest : {A : Type 0} → A → List A → A
 latest before [] = before
 latest before (value ∷ values) = latest value values
@@ -48,13 +48,18 @@ latest before (value ∷ values) = latest value values
 abbrev pub seats_of_word : List ℕ → ℕ
 seats_of_word word = min (number_of_word word) 400
 
+-- the values of the first line after these words, each at its part; a desk is read as at most 255
+abbrev pub head_with : Head → ((SheetPart → Bool) → List (List ℕ)) → Head
+head_with head words = record {
+  desk = latest head.desk (map (λ word. min (number_of_word word) 255) (words (is_like Desk)));
+  is_final = latest head.is_final (map (λ word. bytes_eq word (codes "final")) (words (is_like Kind)));
+  accepted = latest head.accepted (map number_of_word (words (is_like Accepted)));
+}
+
 -- the values of the first line of a text
 abbrev pub head_read : Canton → List ℕ → Head
-head_read canton text = record {
-  desk = latest 0 (map number_of_word (words_at (is_like Desk) (sheet_lines canton) text));
-  is_final = latest false (map (λ word. bytes_eq word (codes "final")) (words_at (is_like Kind) (sheet_lines canton) text));
-  accepted = latest 0 (map number_of_word (words_at (is_like Accepted) (sheet_lines canton) text));
-}
+head_read canton text =
+    head_with (record { desk = 0; is_final = false; accepted = 0 }) (λ test. words_at test (sheet_lines canton) text)
 
 -- the divisors in a text, in millionths; a dash has no digits, so it gives 0
 abbrev pub row_divisors_read : Canton → List ℕ → List ℕ
@@ -72,9 +77,7 @@ seats_read canton text = map seats_of_word (words_at (is_like (ListSeats 0 0)) (
 
 -- what some words, each at its part, add to the values that were read
 pub record AddsWords (words : (SheetPart → Bool) → List (List ℕ)) (old new : Values) : Type 0 where
-  pub desk : new.head.desk ≡ latest old.head.desk (map number_of_word (words (is_like Desk)))
-  pub is_final : new.head.is_final ≡ latest old.head.is_final (map (λ word. bytes_eq word (codes "final")) (words (is_like Kind)))
-  pub accepted : new.head.accepted ≡ latest old.head.accepted (map number_of_word (words (is_like Accepted)))
+  pub head : new.head ≡ head_with old.head words
   pub rows : new.row_divisors.items ≡ old.row_divisors.items ++ map number_of_word (words (is_like (ConstituencyDivisor 0)))
   pub groups : new.group_divisors.items ≡ old.group_divisors.items ++ map number_of_word (words (is_like (GroupDivisor 0)))
   pub votes : new.votes.items ≡ old.votes.items ++ map number_of_word (words (is_like (ListVotes 0 0)))
@@ -82,15 +85,14 @@ pub record AddsWords (words : (SheetPart → Bool) → List (List ℕ)) (old new
 
 -- all values of a text
 pub record IsRead (canton : Canton) (text : List ℕ) (read : Values) : Type 0 where
-  pub desk : read.head.desk ≡ (head_read canton text).desk
-  pub is_final : read.head.is_final ≡ (head_read canton text).is_final
-  pub accepted : read.head.accepted ≡ (head_read canton text).accepted
+  pub head : read.head ≡ head_read canton text
   pub rows : read.row_divisors.items ≡ row_divisors_read canton text
   pub groups : read.group_divisors.items ≡ group_divisors_read canton text
   pub votes : read.votes.items ≡ votes_read canton text
   pub seats : read.seats.items ≡ seats_read canton text
 
--- the lines between the first line and the constituencies: the house, two divisors of seats, and a canton-wide quorum if there is one
+-- the number of lines between the first line and the constituencies: the house, two divisors of seats, and a canton-wide quorum if there
+-- is one
 abbrev pub lines_above : Canton → ℕ
 lines_above canton = option_map_or (λ _. 4) canton.canton_quorum 3
 

@@ -17,12 +17,12 @@ use Rattle.zh_check.specs.declared.checked.SheetVerdict.TheVariants.{Differs, No
 use Rattle.zh_check.specs.declared.checked.WrongLine.{WrongLine}
 
 abbrev pub right_text : RightSheet → List ℕ
-right_text c = sheet_text c.sheet c.desk c.is_final c.accepted
+right_text c = sheet_text c.sheet c.head.desk c.head.is_final c.head.accepted
 
--- the bytes are the text of a distribution of this set-up, with the votes held if there are any, for a desk from 1 to 8
+-- the bytes are the text of a published distribution of this set-up, for a desk from 1 to 8; its votes are those held, if these are given
 pub record IsRight (canton : Canton) (held : Option VoteTotals) (bytes : List ℕ) (c : RightSheet) : Type 0 where
-  pub desk : (1 ≤ c.desk) × (c.desk ≤ 8)
-  pub accepted : c.accepted ≤ 2 ^ 64 - 1
+  pub desk : (1 ≤ c.head.desk) × (c.head.desk ≤ 8)
+  pub accepted : c.head.accepted ≤ 2 ^ 64 - 1
   pub same_setup : c.sheet.totals.canton ≡ canton
   pub meets : IsPublished c.sheet
   pub votes : IfSome held (λ h. c.sheet.totals.votes ≡ h.votes)
@@ -33,10 +33,8 @@ pub record IsRecomputed (canton : Canton) (bytes : List ℕ) (c : RightSheet) : 
   pub votes : c.sheet.totals ≡ totals_read canton bytes
   pub lists : c.sheet.lower ≡ lists_read canton bytes
   pub meets : IsPublished c.sheet
-  pub desk : (1 ≤ c.desk) × (c.desk ≤ 8)
-  pub read : c.desk ≡ (head_read canton bytes).desk
-  pub is_final : c.is_final ≡ (head_read canton bytes).is_final
-  pub accepted : c.accepted ≡ (head_read canton bytes).accepted
+  pub desk : (1 ≤ c.head.desk) × (c.head.desk ≤ 8)
+  pub head : c.head ≡ head_read canton bytes
 
 -- it is found if and only if it exists
 pub record FindsSheet (canton : Canton) (bytes : List ℕ) (found : Option RightSheet) : Type 0 where
@@ -50,7 +48,7 @@ pub record DiffersFromSheet (canton : Canton) (bytes : List ℕ) (wrong : WrongL
   pub other : bytes ≢ right_text sheet
   pub line : DiffersAt bytes (right_text sheet) (right_text sheet) wrong
 
--- if the verdict is right, this is the right sheet; otherwise there is none
+-- with the verdict `Right`, the bytes are the text of this right sheet; with any other, they are not that of a right sheet
 abbrev pub IsRightExactly : Canton → Option VoteTotals → List ℕ → SheetVerdict → Type 0
 IsRightExactly canton held bytes (Right c) = IsRight canton held bytes c
 IsRightExactly canton held bytes verdict = (c : RightSheet) → ¬ IsRight canton held bytes c

@@ -11,15 +11,14 @@ use crate::recomputed::{read, recomputed, text_of};
 use std::alloc::{AllocError, Global};
 use zh_districts::Setup;
 use zh_sheet::Sheet;
+use zh_sheet_text::Head;
 use zh_totals::Totals;
 
-/// A right sheet: its distribution, and the values of its first line.
+/// A right sheet: its distribution, and what its first line says.
 #[derive(Drop)]
 pub struct RightSheet<'s> {
     pub sheet: Sheet<'s>,
-    pub desk: u8,
-    pub is_final: bool,
-    pub accepted: u64,
+    pub head: Head,
 }
 
 /// A line that is wrong.
@@ -90,20 +89,20 @@ pub enum SheetVerdict<'s> {
     /// The sheet is right.
     Right(RightSheet<'s>),
     /// The first line that is not of its kind. If only CRs are wrong in the text, `should` is the line without them.
-    /// Otherwise `should` has two dots for each word that only votes can give.
+    /// Otherwise `should` has two dots for each word that the set-up does not give.
     OffForm(WrongLine),
     /// The first list whose votes differ from those held.
     OtherVotes(OtherVotes),
-    /// The first line that differs from the sheet that follows from the votes, the divisors and the seats of the lists
-    /// shown.
+    /// A sheet follows from the first line of the text and from its votes, divisors and seats of lists. This is the first
+    /// line that differs from that sheet.
     Differs(WrongLine),
     /// No sheet follows. This is the first list whose seats do not follow from its votes and its divisors.
     OffList(OffList),
     /// No sheet follows. This is the first constituency, or else the first group, whose lists do not add up to its
     /// seats.
     OffTotal(OffTotal),
-    /// No sheet follows, although the seats of each list follow and all totals that are known are met. Then the
-    /// constituencies or the groups get no seats, there are too many votes, or a divisor is beyond its limits or
+    /// No sheet follows, although the seats of each list follow, and the lists add up to each total that follows. Then
+    /// the constituencies or the groups get no seats, there are too many votes, or a divisor is beyond its limits or
     /// belongs to a group without seats.
     NoSheet,
 }

@@ -24,7 +24,7 @@ pub fn made_sheet_is_right()
     ensures { (totals : VoteTotals) (sheet : Distribution) (desk accepted : ℕ) (is_final : Bool) →
         IsMade totals (Ok sheet) → NoneHidden totals → 1 ≤ desk → desk ≤ 8 → accepted ≤ 2 ^ 64 - 1 →
         IsRight totals.canton (Some totals) (sheet_text sheet desk is_final accepted)
-        (record { sheet = sheet; desk = desk; is_final = is_final; accepted = accepted }) }
+        (record { sheet = sheet; head = record { desk = desk; is_final = is_final; accepted = accepted } }) }
 {}
 
 /// The text of a sheet is in the form of a sheet, for any desk: no line is reported as not of its kind.

@@ -11,19 +11,11 @@ use crate::lines::{Lines, number_of_word, split_word};
 use std::alloc::{AllocError, Global};
 use zh_districts::Setup;
 use zh_sheet::{Sheet, given};
-use zh_sheet_text::{SheetPart, line_at, line_count, write_sheet};
+use zh_sheet_text::{Head, SheetPart, line_at, line_count, write_sheet};
 use zh_totals::Totals;
 
 /// The most seats that a list can have.
 pub(crate) const MOST_SEATS: u64 = 400;
-
-/// The values of the first line.
-#[derive(Clone, Copy)]
-pub(crate) struct Head {
-    pub desk: u64,
-    pub is_final: bool,
-    pub accepted: u64,
-}
 
 /// The values that only the text has. The divisors are in millionths, 0 for a group without one. Votes and seats are
 /// those of every list, by constituency and group, 0 for a list that does not stand.
@@ -36,13 +28,13 @@ pub(crate) struct Values {
     pub seats: Vec<u32>,
 }
 
-/// Reads the word at a part.
+/// Reads the word at a part, if it is one of the parts that are read.
 fn read_word(values: &mut Values, part: SheetPart, word: &[u8]) -> Result<(), AllocError>
     ensures { OnOk result (AddsWords (λ test. if test part then word.now ∷ [] else []) values.old values.new) }
 {
     match part {
         SheetPart::Desk => {
-            values.head.desk = number_of_word(word);
+            values.head.desk = number_of_word(word).min(255) as u8;
             Ok(())
         }
         SheetPart::Kind => {
@@ -111,8 +103,8 @@ pub(crate) fn read(alloc: Global, setup: &Setup, text: &[u8]) -> Result<Values, 
     Ok(values)
 }
 
-/// Whether there is a desk of this number.
-fn is_desk(number: u64) -> bool
+/// Whether this is the number of a desk, 1 to 8.
+fn is_desk(number: u8) -> bool
     ensures { IsTrue result ↔ (1 ≤ number) × (number ≤ 8) }
 {
     number >= 1 && number <= 8
@@ -145,8 +137,7 @@ pub(crate) fn recomputed<'s>(
     requires { IsRead setup.now text.now values.now }
     ensures { IfOk result (FindsSheet setup.now text.now) }
 {
-    let head = values.head;
-    if !is_desk(head.desk) {
+    if !is_desk(values.head.desk) {
         return Ok(None);
     }
     let votes = Vec::from_slice(alloc, &values.votes)?;
@@ -158,9 +149,7 @@ pub(crate) fn recomputed<'s>(
     };
     Ok(Some(RightSheet {
         sheet,
-        desk: head.desk as u8,
-        is_final: head.is_final,
-        accepted: head.accepted,
+        head: values.head,
     }))
 }
 
@@ -168,14 +157,13 @@ pub(crate) fn recomputed<'s>(
 pub(crate) fn text_of(alloc: Global, right: &RightSheet<'_>) -> Result<Vec<u8>, AllocError>
     ensures { IfOk result (λ text. text.items ≡ right_text right.now) }
 {
+    let Head {
+        desk,
+        is_final,
+        accepted,
+    } = right.head;
     let mut text = Vec::new(alloc);
-    match write_sheet(
-        &right.sheet,
-        right.desk,
-        right.is_final,
-        right.accepted,
-        &mut text,
-    ) {
+    match write_sheet(&right.sheet, desk, is_final, accepted, &mut text) {
         Ok(()) => Ok(text),
         Err(_) => Err(AllocError),
     }
@@ -188,7 +176,7 @@ pub(crate) fn column_divisors(alloc: Global, divisors: &[u64]) -> Result<Vec<u64
     divisors.iter().copied().filter(|x| *x > 0).collect(alloc)
 }
 
-/// Appends the seats of a constituency's lists, only of groups with a divisor.
+/// Appends the seats of a constituency's lists, but only those of groups with a divisor.
 fn push_columns(
     columns: &mut Vec<u32>,
     setup: &Setup,

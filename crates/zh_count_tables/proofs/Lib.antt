@@ -1,5 +1,2 @@
-mod CountingLemmas
-mod TotalsLemmas
 mod QuorumLemmas
-mod NameLemmas
 mod VotesLemmas

@@ -33,7 +33,7 @@ pub fn hold(setup: &Setup, batch: &mut Batch, row: Row) -> Result<(), LoadFault>
     Ok(())
 }
 
-/// The rows of a set-up that are being loaded.
+/// The rows that were read so far, and the set-up for which they are read.
 #[derive(Drop)]
 struct Loading<'s> {
     setup: &'s Setup,
@@ -50,8 +50,8 @@ impl<'s> Takes for Loading<'s> {
 
     ghost holds = { λ canton taker rows. (taker.setup.now ≡ canton) × (taker.rows ≡ rows) × AreLoaded canton rows };
 
-    fn take(&mut self, record: &ByteRecord) -> Result<(), LoadFault> {
-        hold(self.setup, &mut self.rows, row_of(record)?)
+    fn take(&mut self, csv_record: &ByteRecord) -> Result<(), LoadFault> {
+        hold(self.setup, &mut self.rows, row_of(csv_record)?)
     }
 }
 

@@ -86,7 +86,7 @@ impl<'s> RunningSums<'s> {
         })
     }
 
-    /// Adds one row.
+    /// Adds one row. Fails with the first reason why it can't follow the rows before it, or if memory is refused.
     fn note(&mut self, row: &HeldRow) -> Result<(), LoadFault>
         requires readable { IsHeldRow row.now }
         requires taken { (canton : Canton) × (rows : List HeldRow) × HasTaken canton rows self.old }
@@ -132,12 +132,12 @@ impl<'s> Takes for RunningSums<'s> {
 
     ghost holds = { λ canton sums rows. HasTaken canton rows sums };
 
-    fn take(&mut self, record: &ByteRecord) -> Result<(), LoadFault> {
+    fn take(&mut self, csv_record: &ByteRecord) -> Result<(), LoadFault> {
         // The limits of a set-up bound the number of its rows.
         let setup = self.totals.setup();
         let is_small = setup.municipalities() <= 512 && setup.groups() <= 32;
         prove!(is_small);
-        self.note(&held_row_of(record)?)
+        self.note(&held_row_of(csv_record)?)
     }
 }
 
@@ -151,7 +151,7 @@ pub struct HeldRow {
     pub votes: Option<u32>,
 }
 
-/// The votes in a field, which is a numeral or `withdrawn`.
+/// The votes in a field: `Some(None)` if it is `withdrawn`, and `None` if it is neither that nor a numeral.
 fn votes_in(field: &[u8]) -> Option<Option<u32>>
     ensures { MatchOption result
         ((votes : Option ℕ) → IfSome votes (λ n. n < 2 ^ 32) → field.now ≢ votes_field votes)
@@ -164,32 +164,32 @@ fn votes_in(field: &[u8]) -> Option<Option<u32>>
     Some(Some(votes))
 }
 
-/// The row in a record of four fields.
-fn held_row_in(record: &ByteRecord) -> Option<HeldRow>
-    requires { length (fields_of «record».now) ≡ 4 }
+/// The row in a record of four fields. `None` if a field is not spelled as in an export, or the replacement number is 0.
+fn held_row_in(csv_record: &ByteRecord) -> Option<HeldRow>
+    requires { length (fields_of csv_record.now) ≡ 4 }
     ensures { MatchOption result
-        ((row : HeldRow) → IsHeldRow row → fields_of «record».now ≢ held_fields row)
-        (λ row. IsHeldRow row × (fields_of «record».now ≡ held_fields row)) }
+        ((row : HeldRow) → IsHeldRow row → fields_of csv_record.now ≢ held_fields row)
+        (λ row. IsHeldRow row × (fields_of csv_record.now ≡ held_fields row)) }
 {
     let row = HeldRow {
-        municipality: numeral(field(record, 0))?,
-        list: numeral(field(record, 1))?,
-        number: numeral(field(record, 2))?,
-        votes: votes_in(field(record, 3))?,
+        municipality: numeral(field(csv_record, 0))?,
+        list: numeral(field(csv_record, 1))?,
+        number: numeral(field(csv_record, 2))?,
+        votes: votes_in(field(csv_record, 3))?,
     };
     if row.number == 0 { None } else { Some(row) }
 }
 
 /// The row of a record, or why the record is not a row.
-fn held_row_of(record: &ByteRecord) -> Result<HeldRow, LoadFault>
+fn held_row_of(csv_record: &ByteRecord) -> Result<HeldRow, LoadFault>
     ensures { MatchResult result
-        (λ row. IsHeldRow row × (fields_of «record».now ≡ held_fields row))
-        (IsUnread held_fields IsHeldRow (fields_of «record».now)) }
+        (λ row. IsHeldRow row × (fields_of csv_record.now ≡ held_fields row))
+        (IsUnread held_fields IsHeldRow (fields_of csv_record.now)) }
 {
-    if !may_be_row(record) {
+    if !may_be_row(csv_record) {
         return Err(LoadFault::Csv);
     }
-    held_row_in(record).ok_or(LoadFault::Syntax)
+    held_row_in(csv_record).ok_or(LoadFault::Syntax)
 }
 
 /// What is wrong with a record of an export.
@@ -199,19 +199,19 @@ pub enum HeldFault {
     Csv,
     /// A field is neither a numeral nor, for votes, `withdrawn`; or a replacement number is 0.
     Syntax,
-    /// The set-up has no such municipality.
+    /// The set-up has no municipality with this number.
     Municipality,
     /// The list does not stand in the constituency of the municipality.
     List,
-    /// More than 1,000,000,000 votes.
+    /// There are more than 1,000,000,000 votes.
     Votes,
     /// An earlier record has the same municipality and list.
     Twice,
 }
 
 impl HeldFault {
-    /// What is wrong with the record, given the fault. `None` if memory was refused or the reader failed: then no
-    /// record is wrong.
+    /// What is wrong with the record at which the reading of an export ended with this fault. `None` if memory was refused or
+    /// the reader failed: then no record is wrong.
     pub fn of(fault: LoadFault) -> Option<HeldFault>
         ensures { result ≡ named fault }
     {

@@ -44,7 +44,8 @@ pub fn reader_of<R: Read>(alloc: Global, text: R) -> Reader<FrontReader<R>>
 fn fault_by(error: &Error) -> ReadFault {
     match error.kind() {
         ErrorKind::OutOfMemory => ReadFault::Memory,
-        // If records can have any number of fields, no other error is left than that of the underlying reader.
+        // Records can have any number of fields, so the other errors should be those of the underlying reader. The contract of `csv`
+        // does not say so.
         _ => ReadFault::Read,
     }
 }
@@ -52,12 +53,12 @@ fn fault_by(error: &Error) -> ReadFault {
 /// Reads the next record. Returns whether there was one.
 pub fn next_record<R: Read>(
     reader: &mut Reader<R>,
-    record: &mut ByteRecord,
+    csv_record: &mut ByteRecord,
 ) -> Result<bool, ReadFault>
     ensures { (text : List ℕ) (given : List Record) → HasRead R.remaining text given reader.old → IfOk result
-        (λ found. MatchBool found (HasRead R.remaining text (given ++ fields_of record.new ∷ []) reader.new) (AreAll text given)) }
+        (λ found. MatchBool found (HasRead R.remaining text (given ++ fields_of csv_record.new ∷ []) reader.new) (AreAll text given)) }
 {
-    match reader.read_byte_record(record) {
+    match reader.read_byte_record(csv_record) {
         Ok(found) => Ok(found),
         Err(error) => Err(fault_by(&error)),
     }
@@ -70,11 +71,11 @@ pub const FIELDS: usize = 4;
 pub(crate) const MOST_BYTES: usize = 1_000;
 
 /// The field of a record at an index, from 0.
-pub fn field(record: &ByteRecord, place: usize) -> &[u8]
-    requires { place < length (fields_of «record».now) }
-    ensures { result.now ≡ get_or (fields_of «record».now) place [] }
+pub fn field(csv_record: &ByteRecord, place: usize) -> &[u8]
+    requires { place < length (fields_of csv_record.now) }
+    ensures { result.now ≡ get_or (fields_of csv_record.now) place [] }
 {
-    record.get(place).unwrap()
+    csv_record.get(place).unwrap()
 }
 
 /// Whether these four fields are the names of the columns.
@@ -88,58 +89,58 @@ fn are_names(municipality: &[u8], list: &[u8], number: &[u8], votes: &[u8]) -> b
 }
 
 /// Whether a record consists of the names of the columns.
-pub fn is_names(record: &ByteRecord) -> bool
-    ensures { IsTrue result ↔ (fields_of «record».now ≡ names) }
+pub fn is_names(csv_record: &ByteRecord) -> bool
+    ensures { IsTrue result ↔ (fields_of csv_record.now ≡ names) }
 {
-    record.len() == FIELDS
+    csv_record.len() == FIELDS
         && are_names(
-            field(record, 0),
-            field(record, 1),
-            field(record, 2),
-            field(record, 3),
+            field(csv_record, 0),
+            field(csv_record, 1),
+            field(csv_record, 2),
+            field(csv_record, 3),
         )
 }
 
 /// The row in a record of four fields.
-fn row_in(record: &ByteRecord) -> Option<Row>
-    requires { length (fields_of «record».now) ≡ FIELDS }
+fn row_in(csv_record: &ByteRecord) -> Option<Row>
+    requires { length (fields_of csv_record.now) ≡ FIELDS }
     ensures { MatchOption result
-        ((row : Row) → IsReadable row → fields_of «record».now ≢ fields row)
-        (λ row. IsReadable row × (fields_of «record».now ≡ fields row)) }
+        ((row : Row) → IsReadable row → fields_of csv_record.now ≢ fields row)
+        (λ row. IsReadable row × (fields_of csv_record.now ≡ fields row)) }
 {
     let row = Row {
-        municipality: numeral(field(record, 0))?,
-        list: numeral(field(record, 1))?,
-        number: numeral(field(record, 2))?,
-        votes: numeral(field(record, 3))?,
+        municipality: numeral(field(csv_record, 0))?,
+        list: numeral(field(csv_record, 1))?,
+        number: numeral(field(csv_record, 2))?,
+        votes: numeral(field(csv_record, 3))?,
     };
     if row.number == 0 { None } else { Some(row) }
 }
 
 /// Whether a record can be that of a row: it has four fields, and at most `MOST_BYTES` bytes.
-pub fn may_be_row(record: &ByteRecord) -> bool
-    ensures { result ≡ may_be_row (fields_of «record».now) }
+pub fn may_be_row(csv_record: &ByteRecord) -> bool
+    ensures { result ≡ may_be_row (fields_of csv_record.now) }
 {
-    if record.len() != FIELDS {
+    if csv_record.len() != FIELDS {
         return false;
     }
-    let front = field(record, 0)
+    let front = field(csv_record, 0)
         .len()
-        .saturating_add(field(record, 1).len());
-    let back = field(record, 2)
+        .saturating_add(field(csv_record, 1).len());
+    let back = field(csv_record, 2)
         .len()
-        .saturating_add(field(record, 3).len());
+        .saturating_add(field(csv_record, 3).len());
     front.saturating_add(back) <= MOST_BYTES - FIELDS
 }
 
 /// The row of a record, or why the record is not a row.
-pub fn row_of(record: &ByteRecord) -> Result<Row, LoadFault>
+pub fn row_of(csv_record: &ByteRecord) -> Result<Row, LoadFault>
     ensures { MatchResult result
-        (λ row. IsReadable row × (fields_of «record».now ≡ fields row))
-        (IsUnread fields IsReadable (fields_of «record».now)) }
+        (λ row. IsReadable row × (fields_of csv_record.now ≡ fields row))
+        (IsUnread fields IsReadable (fields_of csv_record.now)) }
 {
-    if !may_be_row(record) {
+    if !may_be_row(csv_record) {
         return Err(LoadFault::Csv);
     }
-    row_in(record).ok_or(LoadFault::Syntax)
+    row_in(csv_record).ok_or(LoadFault::Syntax)
 }

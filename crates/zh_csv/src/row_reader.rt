@@ -31,14 +31,14 @@ pub trait Takes {
     ghost holds: { Canton → Self → List Self.Row → Type 0 };
 
     /// Takes the row in a record, after those that it already holds.
-    fn take(&mut self, record: &ByteRecord) -> Result<(), LoadFault>
+    fn take(&mut self, csv_record: &ByteRecord) -> Result<(), LoadFault>
         requires { (canton : Canton) × (rows : List Self.Row) × holds canton self.old rows }
         ensures { (canton : Canton) (rows : List Self.Row) → holds canton self.old rows → MatchResult result
             (λ _. (length rows < 16384)
-            × ((row : Self.Row) × (fields_of «record».now ≡ (kind canton).fields row) × holds canton self.new (rows ++ row ∷ [])))
+            × ((row : Self.Row) × (fields_of csv_record.now ≡ (kind canton).fields row) × holds canton self.new (rows ++ row ∷ [])))
             (λ fault. (kind canton).AreHeld rows
-            × (fault ≢ LoadFault.Memory → IsUnread (kind canton).fields (kind canton).IsReadable (fields_of «record».now) fault
-            ⊎ IsUnheld (kind canton) rows (fields_of «record».now) fault)) };
+            × (fault ≢ LoadFault.Memory → IsUnread (kind canton).fields (kind canton).IsReadable (fields_of csv_record.now) fault
+            ⊎ IsUnheld (kind canton) rows (fields_of csv_record.now) fault)) };
 }
 
 /// The most rows that there can be: one for each list in each municipality.
@@ -47,7 +47,7 @@ const MOST_HELD: u32 = 16_384;
 /// Takes the rows after the names of the columns. Returns their number.
 fn take_rows<R: Read, T: Takes>(
     reader: &mut Reader<R>,
-    record: &mut ByteRecord,
+    csv_record: &mut ByteRecord,
     taker: &mut T,
 ) -> Result<u32, LoadFault>
     requires { (canton : Canton) × T.holds canton taker.old [] }
@@ -55,10 +55,10 @@ fn take_rows<R: Read, T: Takes>(
         (λ text. HasRead R.remaining text (names ∷ []) reader.old) (T.holds canton taker.new) result }
 {
     for rows in 0..=MOST_HELD {
-        if !next_record(reader, record)? {
+        if !next_record(reader, csv_record)? {
             return Ok(rows);
         }
-        taker.take(record)?;
+        taker.take(csv_record)?;
     }
     unreachable!()
 }
@@ -74,11 +74,11 @@ fn take_text<R: Read + Drop, T: Takes>(
         (λ front. option_map front_of (R.remaining text) ≡ Some front) (T.holds canton taker.new) result }
 {
     let mut reader = reader_of(alloc, text);
-    let mut record = ByteRecord::new(alloc);
-    if !next_record(&mut reader, &mut record)? || !is_names(&record) {
+    let mut csv_record = ByteRecord::new(alloc);
+    if !next_record(&mut reader, &mut csv_record)? || !is_names(&csv_record) {
         return Err(LoadFault::Csv);
     }
-    take_rows(&mut reader, &mut record, taker)
+    take_rows(&mut reader, &mut csv_record, taker)
 }
 
 /// Takes the rows of a text and returns their number. The first record is the names of the columns, and each further
@@ -94,7 +94,7 @@ pub fn read_rows<R: Read, T: Takes>(
     ensures read { IsErrOf result LoadFault.Read → has_failed text.new ≡ true }
 {
     match take_text(alloc, &mut *text, taker) {
-        // A failed read is noted. There was none, so this error means that memory was refused.
+        // The contract of `csv` does not say that a read failed. If none did, the error is reported as refused memory.
         Err(LoadFault::Read) if !text.has_failed() => Err(LoadFault::Memory),
         taken => taken,
     }

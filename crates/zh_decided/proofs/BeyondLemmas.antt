@@ -10,13 +10,12 @@ use Rattle.zh_matrices.specs.Divisors.{Divisors, millionths}
 use Rattle.zh_matrices.specs.Fitting.{FitsVotes}
 use Rattle.zh_matrices.specs.Question.{AreSeatTotals, Question, cell}
 use Rattle.zh_matrices.specs.SeatMatrix.{IsStrict}
-use Rattle.zh_matrices.proofs.CallerLemmas.{only_seats, weakened}
+use Rattle.zh_matrices.proofs.CallerLemmas.{few-in-cell, only_seats, weakened}
 use Rattle.zh_decided.specs.Prices.{AreLogs, Logs, priced}
 use Rattle.zh_decided.specs.Sweeps.{AreFair, AreOut, IsCycle, IsLow, StandsFree, of_column, of_row}
 use Rattle.zh_decided.specs.declared.sweep_bounds.Bounds.{Bounds}
 use Rattle.zh_decided.specs.declared.cycles.Cycle.{Cycle}
 use Rattle.zh_decided.specs.declared.sweeps.Potentials.{Potentials}
-use Rattle.zh_decided.proofs.CycleTurnLemmas.{cell-fitting}
 use Rattle.zh_decided.proofs.CircleLemmas.{no_cycle, same-slacks}
 use Rattle.zh_decided.specs.Boxes.{IsBox, NoneInRange}
 use Rattle.zh_decided.specs.Tables.{AreLogTables}
@@ -57,7 +56,7 @@ fair-logs q l seats bounds of_rows of_columns w A T totals F W small S = record 
         arith,
         price-is q l A T d g s dm gn,
         dear (cell q.columns q.votes d g) (2 * s + 1) (10 ^ 12) R C (cell q.columns l.of_votes d g) (slice_index l.of_odds s) w (log_of R) (log_of C)
-            (T.votes d g dm gn some) W (T.odds s (cell-fitting q seats totals F d g dm gn)) (log_of-is R (S.row_divisors d dm))
+            (T.votes d g dm gn some) W (T.odds s (few-in-cell q seats totals F.rows_add_up d g dm gn)) (log_of-is R (S.row_divisors d dm))
             (log_of-is C (S.column_divisors g gn)) (S.each_rounds d g dm gn).below_upper,
       );
   taken = λ d g dm gn has.
@@ -65,7 +64,7 @@ fair-logs q l seats bounds of_rows of_columns w A T totals F W small S = record 
       let R : ℕ = slice_index of_rows d in
       let C : ℕ = slice_index of_columns g in
       let odd : 2 * (s - 1) + 1 ≡ 2 * s - 1 = omega arith in
-      let few : s ≤ 400 = cell-fitting q seats totals F d g dm gn in
+      let few : s ≤ 400 = few-in-cell q seats totals F.rows_add_up d g dm gn in
       elim (cases_lt 0 (cell q.columns q.votes d g)) [
         | inl some ↦ omega (
           arith,

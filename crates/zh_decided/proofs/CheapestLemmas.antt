@@ -3,14 +3,13 @@ use Rattle.std.proofs.Common.{◌≡◌, ℕ, zero, suc, ◌+◌, ◌-◌, ◌*�
 use Rattle.std.proofs.lemmas.Bool.{cases_lt, cases_order}
 use Rattle.zh_divisors.specs.Sums.{sum_to}
 use Rattle.zh_divisors.proofs.CallerLemmas.{sum_to-le, sum_to-suc}
-use Rattle.zh_matrices.proofs.CallerLemmas.{same_terms, total, total-add, weigh_columns, weigh_rows}
+use Rattle.zh_matrices.proofs.CallerLemmas.{few-in-cell, same_terms, total, total-add, weigh_columns, weigh_rows}
 use Rattle.zh_matrices.specs.Fitting.{FitsVotes}
 use Rattle.zh_matrices.specs.Question.{AreSeatTotals, Question, cell}
 use Rattle.zh_decided.specs.Prices.{AreLogs, Logs, cost, priced, seat_price}
 use Rattle.zh_decided.specs.Sweeps.{AreFair}
 use Rattle.zh_decided.specs.declared.sweep_bounds.Bounds.{Bounds}
 use Rattle.zh_decided.proofs.CircleLemmas.{one_level_more}
-use Rattle.zh_decided.proofs.CycleTurnLemmas.{cell-fitting}
 
 -- prices that do not fall up to seat 400
 abbrev pub Rise : (ℕ → ℕ) → Type 0
@@ -107,7 +106,7 @@ each-weighed : (q : Question) (l : Logs) (bounds : Bounds) (seats others : List 
 each-weighed q l bounds seats others x y logs totals fair F G d g dm gn = elim (cases_lt 0 (cell q.columns q.votes d g)) [
   | inl votes ↦
       cell-cheapest (seat_price l (d * q.columns + g)) (cell q.columns seats d g) (cell q.columns others d g) (x d) (y g)
-      (prices-rise l (d * q.columns + g) logs) (cell-fitting q seats totals F d g dm gn) (cell-fitting q others totals G d g dm gn)
+      (prices-rise l (d * q.columns + g) logs) (few-in-cell q seats totals F.rows_add_up d g dm gn) (few-in-cell q others totals G.rows_add_up d g dm gn)
       (omega (arith, fair.given d g dm gn votes)) (λ some. omega (arith, fair.taken d g dm gn some))
   | inr none ↦
       let no_seats : cell q.columns seats d g ≡ 0 = F.on_votes d g dm gn (omega arith) in
@@ -162,7 +161,7 @@ pub only-cheapest : (q : Question) (l : Logs) (bounds : Bounds) (seats others : 
 only-cheapest q l bounds seats others x y logs totals fair given taken F G costs d g dm gn = elim (cases_lt 0 (cell q.columns q.votes d g)) [
   | inl votes ↦
       cell-only (seat_price l (d * q.columns + g)) (cell q.columns seats d g) (cell q.columns others d g) (x d) (y g)
-      (prices-rise l (d * q.columns + g) logs) (cell-fitting q seats totals F d g dm gn) (cell-fitting q others totals G d g dm gn)
+      (prices-rise l (d * q.columns + g) logs) (few-in-cell q seats totals F.rows_add_up d g dm gn) (few-in-cell q others totals G.rows_add_up d g dm gn)
       (omega (arith, fair.given d g dm gn votes)) (λ some. omega (arith, fair.taken d g dm gn some))
       (same-each q.rows q.columns _ _ (each-weighed q l bounds seats others x y logs totals fair F G)
       (omega (arith, weighed-alike q l seats others x y F G)) d g dm gn)

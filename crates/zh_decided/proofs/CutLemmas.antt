@@ -1,10 +1,10 @@
 -- If no more seats can be placed, no matrix within the bounds has all totals. If all are placed, they are such a matrix.
-use Rattle.std.proofs.Common.{◌≡◌, ℕ, zero, suc, ◌+◌, ◌<◌, ◌≤◌, ◌⊎◌, Bool, true, false, cond, Option, Some, None, IsSome, is_none, Result, Ok, Err, IfErr, OnOk, is_ok}
-use Rattle.std.proofs.Common.{List, slice_index, refl, sym, ◌∙◌, inl, inr, arith, add-one, below_more}
-use Rattle.std.proofs.lemmas.Bool.{cases_eq, cases_lt}
+use Rattle.std.proofs.Common.{◌≡◌, ℕ, zero, suc, ◌+◌, ◌<◌, ◌≤◌, Bool, true, false, cond, Option, Some, None, IsSome, is_none, Result, Ok, Err, IfErr, OnOk, is_ok}
+use Rattle.std.proofs.Common.{List, slice_index, refl, sym, ◌∙◌, inl, inr, arith}
+use Rattle.std.proofs.lemmas.Bool.{cases_lt}
 use Rattle.std.proofs.Math.Nat.{le_of_eq}
 use Rattle.zh_divisors.specs.Sums.{sum_to}
-use Rattle.zh_divisors.proofs.CallerLemmas.{sum_to-ext, sum_to-le}
+use Rattle.zh_divisors.proofs.CallerLemmas.{found_or_none, sum_to-ext, sum_to-le, sum_to-lt}
 use Rattle.zh_matrices.specs.Question.{Question, cell}
 use Rattle.zh_matrices.proofs.CallerLemmas.{same_terms, sum_to-add, total-swap}
 use Rattle.zh_decided.specs.Bounds.{CellBounds, IsWithin}
@@ -19,15 +19,6 @@ some_less zero f g less = absurd (omega arith)
 some_less (suc n) f g less = elim (cases_lt (f n) (g n)) [
   | inl here ↦ (n, omega arith, here)
   | inr le ↦ let (i, lt, smaller) = some_less n f g (omega arith) in (i, omega arith, smaller)
-]
-
-pub sum_to-less : (n : ℕ) (f g : ℕ → ℕ) (j : ℕ) → ((i : ℕ) → i < n → f i ≤ g i) → j < n → f j < g j → sum_to n f < sum_to n g
-sum_to-less zero f g j below within less = absurd (omega arith)
-sum_to-less (suc n) f g j below within less = elim (cases_eq j n) [
-  | inl is ↦
-      let here : f n < g n = rw (← is) less in
-      omega (arith, sum_to-le n f g (λ i lt. below i (omega arith)), here)
-  | inr other ↦ omega (arith, sum_to-less n f g j (λ i lt. below i (omega arith)) (omega arith) less, below n (omega arith))
 ]
 
 kept-most : (b : Bool) (x y : ℕ) → x ≤ y → cond b x 0 ≤ cond b y 0
@@ -53,7 +44,7 @@ due-less q b seats rows blocked =
     let (d, dm, lacks) = some_less q.rows (row_seats q seats) (slice_index q.row_totals) blocked.some_left in
     let among : is_among rows d ≡ true
     = some-or-none (way_at blocked.ways d) (is_among rows d) (blocked.without d dm) (λ some. omega (arith, blocked.stuck.none_lacks d dm some, lacks)) in
-    sum_to-less q.rows (λ e. cond (is_among rows e) (row_seats q seats e) 0) (λ e. cond (is_among rows e) (slice_index q.row_totals e) 0) d
+    sum_to-lt q.rows (λ e. cond (is_among rows e) (row_seats q seats e) 0) (λ e. cond (is_among rows e) (slice_index q.row_totals e) 0) d
     (λ e em. kept-most (is_among rows e) _ _ (blocked.each_placed.rows e em)) dm
     (rw among lacks)
 
@@ -87,17 +78,6 @@ out-most : (b : Bool) (x y : ℕ) → (b ≡ false → x ≤ y) → cond b 0 x �
 out-most true x y le = omega arith
 out-most false x y le = le refl
 
--- either some term of f is less than that of g, or none is
-less_or_none : (n : ℕ) (f g : ℕ → ℕ) → ((i : ℕ) × (i < n) × (f i < g i)) ⊎ ((i : ℕ) → i < n → g i ≤ f i)
-less_or_none zero f g = inr (λ i lt. absurd (omega arith))
-less_or_none (suc n) f g = elim (cases_lt (f n) (g n)) [
-  | inl here ↦ inl (n, omega arith, here)
-  | inr le ↦ elim (less_or_none n f g) [
-    | inl found ↦ inl (found.0, omega (arith, found.1), found.2)
-    | inr none ↦ inr (rw add-one at (below_more (λ i. g i ≤ f i) n none le))
-  ]
-]
-
 kept-less : (b : Bool) (x y : ℕ) → cond b x 0 < cond b y 0 → (b ≡ true) × (x < y)
 kept-less true x y less = (refl, less)
 kept-less false x y less = absurd (omega arith)
@@ -106,7 +86,9 @@ kept-less false x y less = absurd (omega arith)
 seats_in-most : (q : Question) (b : CellBounds) (seats : List ℕ) (rows : List Bool) → AreBlocked q b seats rows → (t : List ℕ) → IsWithin q b t →
     (g : ℕ) → g < q.columns → seats_in q rows t g ≤ seats_in q rows seats g
 seats_in-most q b seats rows blocked t within g gn =
-    elim (less_or_none q.rows (λ d. cond (is_among rows d) (cell q.columns seats d g) 0) (λ d. cond (is_among rows d) (cell q.columns b.most d g) 0)) [
+    let now : ℕ → ℕ = λ d. cond (is_among rows d) (cell q.columns seats d g) 0 in
+    let full : ℕ → ℕ = λ d. cond (is_among rows d) (cell q.columns b.most d g) 0 in
+    elim (found_or_none (λ d. now d < full d) (λ d. full d ≤ now d) (λ d. cases_lt (now d) (full d)) q.rows) [
       | inl found ↦
           let (among, room) = kept-less (is_among rows found.0) _ _ found.2 in
           let closed : HasNoSource q b seats blocked.ways g = closed-for q b seats rows blocked found.0 g found.1 gn among room in

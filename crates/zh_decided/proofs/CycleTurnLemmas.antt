@@ -1,11 +1,9 @@
 -- A cycle that is cancelled, step by step.
-use Rattle.std.proofs.Common.{◌≡◌, ◌≢◌, ℕ, ◌+◌, ◌-◌, ◌*◌, ◌/◌, ◌%◌, ◌<◌, ◌≤◌, List, All, length, get_or, slice_index, inl, inr, refl, sym, ap, ◌∙◌, arith}
+use Rattle.std.proofs.Common.{◌≡◌, ◌≢◌, ℕ, ◌+◌, ◌-◌, ◌*◌, ◌<◌, ◌≤◌, List, length, slice_index, inl, inr, refl, sym, ap, ◌∙◌, arith}
 use Rattle.std.proofs.lemmas.Bool.{cases_eq}
-use Rattle.std.proofs.lemmas.List.Elements.{All-from_get_or}
-use Rattle.std.proofs.Math.Nat.{div-add-mod'}
 use Rattle.zh_divisors.specs.Sums.{sum_to}
-use Rattle.zh_divisors.proofs.CallerLemmas.{sum_to-suc, term-le-sum_to}
-use Rattle.zh_matrices.proofs.CallerLemmas.{column_of, row_of}
+use Rattle.zh_divisors.proofs.CallerLemmas.{sum_to-suc}
+use Rattle.zh_matrices.proofs.CallerLemmas.{few-in-cell}
 use Rattle.zh_matrices.specs.Fitting.{AreOnVotes, FitsVotes}
 use Rattle.zh_matrices.specs.Question.{AreSeatTotals, Question, cell}
 use Rattle.zh_decided.specs.Prices.{AreLogs, Logs, cells, cost, priced, seat_price}
@@ -15,27 +13,6 @@ use Rattle.zh_decided.specs.declared.cycles.Cycle.{Cycle}
 use Rattle.zh_decided.specs.declared.cycles.Transfer.{Transfer}
 use Rattle.zh_decided.proofs.CircleLemmas.{around}
 use Rattle.zh_decided.proofs.PassLemmas.{column-passed, cost-passed, one-else, row-passed}
-
--- a matrix with the totals has at most 400 seats in each cell
-pub few-fitting : (q : Question) (seats : List ℕ) → AreSeatTotals q.rows q.row_totals → FitsVotes q seats → All (λ s. s ≤ 400) seats
-few-fitting q seats totals F = All-from_get_or (λ s. s ≤ 400) seats 0 (λ k lt.
-    let within : k < q.rows * q.columns = omega (arith, F.one_each) in
-    let d : ℕ = k / q.columns in
-    let g : ℕ = k % q.columns in
-    let dm : d < q.rows = row_of q.rows q.columns k within in
-    let gn : g < q.columns = column_of q.rows q.columns k within in
-    let place : d * q.columns + g ≡ k = div-add-mod' k q.columns in
-    let most : get_or q.row_totals d 0 ≤ 400 = totals.at_most_400 d 0 (omega (arith, totals.one_each)) in
-    let few : cell q.columns seats d g ≤ 400
-    = omega (arith, term-le-sum_to q.columns (cell q.columns seats d) g gn, F.rows_add_up d dm) in
-    rw place at few)
-
-pub cell-fitting : (q : Question) (seats : List ℕ) → AreSeatTotals q.rows q.row_totals → FitsVotes q seats → (d g : ℕ) → d < q.rows →
-    g < q.columns →
-    cell q.columns seats d g ≤ 400
-cell-fitting q seats totals F d g dm gn =
-    let most : get_or q.row_totals d 0 ≤ 400 = totals.at_most_400 d 0 (omega (arith, totals.one_each)) in
-    omega (arith, term-le-sum_to q.columns (cell q.columns seats d) g gn, F.rows_add_up d dm)
 
 -- along a circle, a row gives as many seats as it takes
 balanced : (q : Question) (seats : List ℕ) (cycle : Cycle) → IsCircle (cells q seats) cycle → (d : ℕ) →
@@ -132,7 +109,7 @@ AreTurned-more q cycle k before s t totals F C kn T P =
       on_votes = on_votes-more q s t step T.on_votes (C.can_pass k kn).votes P;
       costs = λ l logs.
           let few : cell q.columns s step.giver step.column ≤ 400
-          = rw at_giver (cell-fitting q before totals F step.giver step.column giver column) in
+          = rw at_giver (few-in-cell q before totals F.rows_add_up step.giver step.column giver column) in
           let last : (priced q l s).last step.giver step.column ≡ (priced q l before).last step.giver step.column
           = ap (λ v. seat_price l (step.giver * q.columns + step.column) (v - 1)) at_giver in
           let next : (priced q l s).next step.taker step.column ≡ (priced q l before).next step.taker step.column

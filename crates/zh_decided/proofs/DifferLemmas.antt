@@ -3,11 +3,10 @@ use Rattle.std.proofs.Common.{◌≡◌, ◌≢◌, ℕ, ◌+◌, ◌-◌, ◌*�
 use Rattle.std.proofs.lemmas.Bool.{cases_eq, cases_lt}
 use Rattle.std.proofs.lemmas.List.{get_or-set_other, get_or-set_same, length-set}
 use Rattle.std.proofs.Math.Nat.{le_of_eq, mul-le-mul_right}
-use Rattle.zh_divisors.proofs.CallerLemmas.{sum_to-le}
+use Rattle.zh_divisors.proofs.CallerLemmas.{cell-within, sum_to-le}
 use Rattle.zh_matrices.specs.Question.{IsSized, Question, cell}
 use Rattle.zh_decided.specs.Bounds.{AreAtLeast, AreAtMost, CellBounds, IsAnotherAt, IsWithin}
 use Rattle.zh_decided.specs.Ways.{ArePlaced}
-use Rattle.zh_decided.proofs.PathTurnLemmas.{cell-within}
 use Rattle.zh_decided.proofs.WithinLemmas.{at_most-at}
 
 -- the first n numbers are unchanged, except that the one in `place` is x
@@ -54,48 +53,18 @@ at_least-tight q least tight t place x but le each d g dm gn = elim (cases_eq (d
 abbrev pub lowered : CellBounds → List ℕ → CellBounds
 lowered b tight = record { least = b.least; most = tight }
 
-from_lowered : (q : Question) (b : CellBounds) (tight t : List ℕ) (place x : ℕ) → AreSameBut (q.rows * q.columns) b.most tight place x →
-    x ≤ slice_index b.most place → IsWithin q (lowered b tight) t → IsWithin q b t
-from_lowered q b tight t place x but le within = record {
-  one_each = within.one_each;
-  rows_add_up = within.rows_add_up;
-  columns_add_up = within.columns_add_up;
-  at_least = within.at_least;
-  at_most = at_most-wide q b.most tight t place x but le within.at_most;
-}
-
-to_lowered : (q : Question) (b : CellBounds) (tight t : List ℕ) (place x : ℕ) → AreSameBut (q.rows * q.columns) b.most tight place x →
-    slice_index t place ≤ x → IsWithin q b t → IsWithin q (lowered b tight) t
-to_lowered q b tight t place x but le within = record {
-  one_each = within.one_each;
-  rows_add_up = within.rows_add_up;
-  columns_add_up = within.columns_add_up;
-  at_least = within.at_least;
-  at_most = at_most-tight q b.most tight t place x but le within.at_most;
-}
-
 -- the bounds with tightened lower bounds
 abbrev pub raised : CellBounds → List ℕ → CellBounds
 raised b tight = record { least = tight; most = b.most }
 
-from_raised : (q : Question) (b : CellBounds) (tight t : List ℕ) (place x : ℕ) → AreSameBut (q.rows * q.columns) b.least tight place x →
-    slice_index b.least place ≤ x → IsWithin q (raised b tight) t → IsWithin q b t
-from_raised q b tight t place x but le within = record {
+-- a matrix within some bounds is within others if each cell is
+bounded : (q : Question) (b c : CellBounds) (s : List ℕ) → IsWithin q b s → AreAtLeast q c.least s → AreAtMost q c.most s → IsWithin q c s
+bounded q b c s within low high = record {
   one_each = within.one_each;
   rows_add_up = within.rows_add_up;
   columns_add_up = within.columns_add_up;
-  at_least = at_least-wide q b.least tight t place x but le within.at_least;
-  at_most = within.at_most;
-}
-
-to_raised : (q : Question) (b : CellBounds) (tight t : List ℕ) (place x : ℕ) → AreSameBut (q.rows * q.columns) b.least tight place x →
-    x ≤ slice_index t place → IsWithin q b t → IsWithin q (raised b tight) t
-to_raised q b tight t place x but le within = record {
-  one_each = within.one_each;
-  rows_add_up = within.rows_add_up;
-  columns_add_up = within.columns_add_up;
-  at_least = at_least-tight q b.least tight t place x but le within.at_least;
-  at_most = within.at_most;
+  at_least = low;
+  at_most = high;
 }
 
 -- a copy of all numbers in which one is then set
@@ -153,15 +122,18 @@ fewer-placed q b seats tight place fewer above =
 pub fewer-differs : (q : Question) (b : CellBounds) (seats tight t : List ℕ) (place : ℕ) → IsFewer q b seats tight place →
     IsWithin q (lowered b tight) t → IsAnotherAt q b seats place t
 fewer-differs q b seats tight t place fewer other = record {
-  within = from_lowered q b tight t place (get_or seats place 0 - 1) fewer.but
-      (omega (arith, at_most-at q b.most seats place fewer.there fewer.within.at_most)) other;
+  within = bounded q (lowered b tight) b t other other.at_least
+      (at_most-wide q b.most tight t place (get_or seats place 0 - 1) fewer.but
+      (omega (arith, at_most-at q b.most seats place fewer.there fewer.within.at_most)) other.at_most);
   other = λ same. omega (arith, at_most-at q tight t place fewer.there other.at_most, fewer.but.here, fewer.some, same);
 }
 
 pub none_fewer : (q : Question) (b : CellBounds) (seats tight : List ℕ) (place : ℕ) → IsFewer q b seats tight place →
     ((t : List ℕ) → ¬ IsWithin q (lowered b tight) t) → (t : List ℕ) → IsWithin q b t → slice_index seats place ≤ slice_index t place
 none_fewer q b seats tight place fewer none t within = elim (cases_lt (slice_index t place) (slice_index seats place)) [
-  | inl less ↦ absurd (none t (to_lowered q b tight t place (get_or seats place 0 - 1) fewer.but (omega (arith, less)) within))
+  | inl less ↦
+      absurd (none t (bounded q b (lowered b tight) t within within.at_least
+      (at_most-tight q b.most tight t place (get_or seats place 0 - 1) fewer.but (omega (arith, less)) within.at_most)))
   | inr le ↦ le
 ]
 
@@ -194,14 +166,17 @@ more-placed q b seats tight others place more placed is = record {
 pub more-differs : (q : Question) (b : CellBounds) (seats tight t : List ℕ) (place : ℕ) → IsMore q b seats tight place →
     IsWithin q (raised b tight) t → IsAnotherAt q b seats place t
 more-differs q b seats tight t place more other = record {
-  within = from_raised q b tight t place (get_or seats place 0 + 1) more.but
-      (omega (arith, at_most-at q seats b.least place more.there more.within.at_least)) other;
+  within = bounded q (raised b tight) b t other
+      (at_least-wide q b.least tight t place (get_or seats place 0 + 1) more.but
+      (omega (arith, at_most-at q seats b.least place more.there more.within.at_least)) other.at_least) other.at_most;
   other = λ same. omega (arith, at_most-at q t tight place more.there other.at_least, more.but.here, same);
 }
 
 pub none_more : (q : Question) (b : CellBounds) (seats tight : List ℕ) (place : ℕ) → IsMore q b seats tight place →
     ((t : List ℕ) → ¬ IsWithin q (raised b tight) t) → (t : List ℕ) → IsWithin q b t → slice_index t place ≤ slice_index seats place
 none_more q b seats tight place more none t within = elim (cases_lt (slice_index seats place) (slice_index t place)) [
-  | inl less ↦ absurd (none t (to_raised q b tight t place (get_or seats place 0 + 1) more.but (omega (arith, less)) within))
+  | inl less ↦
+      absurd (none t (bounded q b (raised b tight) t within
+      (at_least-tight q b.least tight t place (get_or seats place 0 + 1) more.but (omega (arith, less)) within.at_least) within.at_most))
   | inr le ↦ le
 ]

@@ -1,15 +1,16 @@
 -- The divisors of the first box are a function of the question and the seats.
-use Rattle.std.proofs.Common.{◌≡◌, ℕ, ◌+◌, ◌-◌, ◌*◌, ◌/◌, ◌%◌, ◌^◌, ◌<◌, ◌≤◌, List, length, get_or, slice_index, inl, inr, sym, ap, subst, ◌∙◌, arith}
+use Rattle.std.proofs.Common.{◌≡◌, ℕ, ◌+◌, ◌-◌, ◌*◌, ◌^◌, ◌<◌, ◌≤◌, List, length, get_or, slice_index, inl, inr, sym, ap, subst, ◌∙◌, arith}
 use Rattle.std.proofs.lemmas.Bool.{cases_lt, cases_order}
 use Rattle.std.proofs.lemmas.List.{ext_get_or}
-use Rattle.std.proofs.Math.Nat.{div-add-mod', le_antisymm, pow-le-pow_right}
+use Rattle.std.proofs.Math.Nat.{le_antisymm, pow-le-pow_right}
 use Rattle.zh_decided.specs.Logarithms.{log_unit}
 use Rattle.zh_decided.proofs.SquaringLemmas.{only-antilogarithm, only-logarithm}
+use Rattle.zh_divisors.proofs.CallerLemmas.{same_table}
 use Rattle.zh_matrices.specs.Divisors.{Divisors, millionths}
 use Rattle.zh_matrices.specs.Fitting.{FitsVotes}
-use Rattle.zh_matrices.specs.Question.{AreSeatTotals, Question, cell}
+use Rattle.zh_matrices.specs.Question.{AreSeatTotals, Question}
 use Rattle.zh_matrices.specs.SeatMatrix.{IsStrict}
-use Rattle.zh_matrices.proofs.CallerLemmas.{column_of, only_seats, row_of, weakened}
+use Rattle.zh_matrices.proofs.CallerLemmas.{only_seats, weakened}
 use Rattle.zh_decided.proofs.ImpossibleLemmas.{fits-weak}
 use Rattle.zh_decided.specs.Prices.{AreLogs, Logs, Priced, priced}
 use Rattle.zh_decided.specs.Sweeps.{AreCapped, AreOut, IsCycle, IsLow, IsStill, of_column, of_row}
@@ -202,13 +203,6 @@ none-given q x seats strict none rows columns others given =
     none rows columns (subst (λ (s : List ℕ). AreInFirstBox q s rows columns) only given.first)
 
 -- nor are any given if these seats cost least and have a cycle at the smallest slack of the boxes
-equal-lists : (q : Question) (seats others : List ℕ) → length seats ≡ q.rows * q.columns → length others ≡ q.rows * q.columns →
-    ((d g : ℕ) → d < q.rows → g < q.columns → cell q.columns others d g ≡ cell q.columns seats d g) → others ≡ seats
-equal-lists q seats others long also same = ext_get_or 0 others seats (also ∙ sym long) (λ k lt.
-    let there : k < q.rows * q.columns = omega (arith, also) in
-    let place : k / q.columns * q.columns + k % q.columns ≡ k = div-add-mod' k q.columns in
-    rw place at (same (k / q.columns) (k % q.columns) (row_of q.rows q.columns k there) (column_of q.rows q.columns k there)))
-
 least-slack : (bits : ℕ) (bounds : Bounds) → bits ≤ 20 → IsBox bits bounds → 4102 ≤ bounds.given
 least-slack bits bounds few B =
     let le : 2 ^ 12 ≤ 2 ^ (32 - bits) = pow-le-pow_right {n = 2} (omega arith) {i = 12} {j = 32 - bits} (omega arith) in
@@ -224,7 +218,7 @@ none-near q l seats cycle A T totals F cheapest C rows columns others given =
     let still : IsStill (priced q l others) bounds p = rw logs at given.first.in_box.stands.still in
     let slack : 4102 ≤ bounds.given = least-slack (20 - 4 * given.first.smaller) bounds (omega arith) box in
     let G : FitsVotes q others = fits-weak q (millionths rows columns) others (weakened q (millionths rows columns) others given.strict) in
-    let same : seats ≡ others = equal-lists q others seats G.one_each F.one_each
+    let same : seats ≡ others = same_table q.rows q.columns seats others F.one_each G.one_each
     (only-cheapest q l bounds others seats (of_row p) (of_column p) A totals still.fair (omega (arith, slack)) (omega (arith, box.taken)) G F
     (cheapest others G)) in
     let here : IsCycle (priced q l others) 4108 cycle = rw same at C in

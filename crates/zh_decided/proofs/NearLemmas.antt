@@ -1,41 +1,11 @@
 -- Seats that are clear of every half, and matrices that are nearly tied.
-use Rattle.std.proofs.Common.{◌≡◌, ℕ, ◌+◌, ◌-◌, ◌*◌, ◌<◌, ◌≤◌, List, inl, inr, sym, ap, ◌∙◌, arith}
-use Rattle.std.proofs.lemmas.Bool.{cases_lt}
-use Rattle.std.proofs.Math.Nat.{mul-le-mul_left, mul-le-mul_right, mul-lt-mul_of_pos_right}
+use Rattle.std.proofs.Common.{◌≡◌, ℕ, ◌-◌, List, sym, ap, ◌∙◌, arith}
 use Rattle.zh_divisors.specs.Rounding.{Rounds}
 use Rattle.zh_matrices.specs.Divisors.{Divisors}
 use Rattle.zh_matrices.specs.NearlyTied.{IsClear, IsNear, IsNearlyTied, NearlyRounds, RoundsClearly}
 use Rattle.zh_matrices.specs.Question.{Question, cell}
 use Rattle.zh_matrices.specs.SeatMatrix.{Follows, IsStrict, IsWeak, MayRound}
-use Rattle.zh_matrices.proofs.CallerLemmas.{Separates, same_seats}
-
--- a larger divisor gives no more seats, for any factor b / a
-fewer_by : (a b v k k' p p' s s' : ℕ) → 0 < k' → b * (2 * (v * k)) < a * ((2 * s + 1) * p) →
-    (1 ≤ s' → a * ((2 * s' - 1) * p') ≤ b * (2 * (v * k'))) → p * k' ≤ p' * k → s' ≤ s
-fewer_by a b v k k' p p' s s' pos below above le =
-    elim (cases_lt s s') [
-      | inl lt ↦
-          let e : a * ((2 * s' - 1) * p') * k ≤ b * (2 * (v * k')) * k = mul-le-mul_right k (above (omega arith)) in
-          let f : b * (2 * (v * k)) * k' < a * ((2 * s + 1) * p) * k' = mul-lt-mul_of_pos_right below pos in
-          let g : a * (2 * s + 1) * (p * k') ≤ a * (2 * s + 1) * (p' * k) = mul-le-mul_left (a * (2 * s + 1)) le in
-          let h : (2 * s + 1) * (a * (p' * k)) ≤ (2 * s' - 1) * (a * (p' * k)) = mul-le-mul_right (a * (p' * k)) (omega arith) in
-          absurd (omega arith)
-      | inr le ↦ le
-    ]
-
--- a smaller divisor gives no fewer seats
-more_by : (a b v k k' p p' s s' : ℕ) → 0 < k' → (1 ≤ s → b * ((2 * s - 1) * p) < a * (2 * (v * k))) →
-    a * (2 * (v * k')) ≤ b * ((2 * s' + 1) * p') → p' * k ≤ p * k' → s ≤ s'
-more_by a b v k k' p p' s s' pos above below le =
-    elim (cases_lt s' s) [
-      | inl lt ↦
-          let e : b * ((2 * s - 1) * p) * k' < a * (2 * (v * k)) * k' = mul-lt-mul_of_pos_right (above (omega arith)) pos in
-          let f : a * (2 * (v * k')) * k ≤ b * ((2 * s' + 1) * p') * k = mul-le-mul_right k below in
-          let g : b * (2 * s' + 1) * (p' * k) ≤ b * (2 * s' + 1) * (p * k') = mul-le-mul_left (b * (2 * s' + 1)) le in
-          let h : (2 * s' + 1) * (b * (p * k')) ≤ (2 * s - 1) * (b * (p * k')) = mul-le-mul_right (b * (p * k')) (omega arith) in
-          absurd (omega arith)
-      | inr le ↦ le
-    ]
+use Rattle.zh_matrices.proofs.CallerLemmas.{Separates, fewer_by, more_by, same_seats}
 
 clear-near : Separates RoundsClearly NearlyRounds
 clear-near = record {

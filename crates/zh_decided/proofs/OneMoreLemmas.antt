@@ -1,22 +1,21 @@
 -- Sums in which one term changes.
-use Rattle.std.proofs.Common.{◌≡◌, ◌≢◌, ℕ, zero, suc, ◌+◌, ◌<◌, inl, inr, refl, sym, arith}
-use Rattle.std.proofs.lemmas.Bool.{cases_eq}
+use Rattle.std.proofs.Common.{◌≡◌, ◌≢◌, ℕ, zero, suc, ◌+◌, ◌<◌, ◌≤◌, refl, arith}
 use Rattle.zh_divisors.specs.Sums.{sum_to}
-use Rattle.zh_divisors.proofs.CallerLemmas.{sum_to-ext}
+use Rattle.zh_divisors.proofs.CallerLemmas.{sum_to-changed, sum_to-zero}
 
--- the other terms do not change
-pub sum_to-changed : (n : ℕ) (f g : ℕ → ℕ) (j : ℕ) → j < n → ((i : ℕ) → i < n → i ≢ j → f i ≡ g i) → sum_to n f + g j ≡ sum_to n g + f j
-sum_to-changed zero f g j within same = absurd (omega arith)
-sum_to-changed (suc n) f g j within same = elim (cases_eq j n) [
-  | inl is ↦
-      let before : sum_to n f ≡ sum_to n g = sum_to-ext n f g (λ i lt. same i (omega arith) (λ e. omega (arith, e))) in
-      rw is (omega (arith, before))
-  | inr other ↦
-      let before : sum_to n f + g j ≡ sum_to n g + f j
-      = sum_to-changed n f g j (omega arith) (λ i lt ne. same i (omega arith) ne) in
-      let here : f n ≡ g n = same n (omega arith) (λ e. other (sym e)) in
-      omega (arith, before, here)
-]
+-- a sum changes as its one changed term does
+pub sum_to-shifted : (n : ℕ) (f g : ℕ → ℕ) (j x y : ℕ) → j < n → ((i : ℕ) → i < n → i ≢ j → f i ≡ g i) → f j + x ≡ g j + y →
+    sum_to n f + x ≡ sum_to n g + y
+sum_to-shifted n f g j x y within same here = omega (arith, sum_to-changed n f g j within same, here)
+
+pub sum_to-lowered : (n : ℕ) (f g : ℕ → ℕ) (j x y : ℕ) → j < n → ((i : ℕ) → i < n → i ≢ j → f i ≡ g i) → f j + x ≤ g j + y →
+    sum_to n f + x ≤ sum_to n g + y
+sum_to-lowered n f g j x y within same here = omega (arith, sum_to-changed n f g j within same, here)
+
+-- all terms but one are 0
+pub sum_to-single : (n : ℕ) (f : ℕ → ℕ) (j : ℕ) → j < n → ((i : ℕ) → i < n → i ≢ j → f i ≡ 0) → sum_to n f ≡ f j
+sum_to-single n f j within none =
+    omega (arith, sum_to-changed n f (λ i. 0) j within none, sum_to-zero n (λ i. 0) (λ i lt. refl))
 
 -- one term grows by one
 pub sum_to-one_more : (n : ℕ) (f g : ℕ → ℕ) (j : ℕ) → j < n → ((i : ℕ) → i < n → i ≢ j → g i ≡ f i) → g j ≡ f j + 1 → sum_to n g ≡ sum_to n f + 1

@@ -1,15 +1,16 @@
 -- A seat that moves within a column: the cells, the sums of rows and columns, and the cost.
-use Rattle.std.proofs.Common.{◌≡◌, ◌≢◌, ℕ, zero, suc, ◌+◌, ◌-◌, ◌*◌, ◌/◌, ◌%◌, ◌<◌, ◌≤◌, cond, List, length, set, inl, inr, sym, ap, ◌∙◌, arith}
+use Rattle.std.proofs.Common.{◌≡◌, ◌≢◌, ℕ, ◌+◌, ◌-◌, ◌*◌, ◌<◌, ◌≤◌, cond, List, length, set, inl, inr, refl, sym, ap, ◌∙◌, arith}
 use Rattle.std.proofs.lemmas.Bool.{cases_eq, eq-eqb, ne_eqb}
 use Rattle.std.proofs.lemmas.List.{get_or-set_other, get_or-set_same, length-set}
 use Rattle.zh_divisors.specs.Sums.{sum_to}
-use Rattle.zh_divisors.proofs.CallerLemmas.{sum_to-ext, sum_to-le, sum_to-suc, sum_to-zero}
-use Rattle.zh_matrices.proofs.CallerLemmas.{place-div, place-mod, sum_to-add}
+use Rattle.zh_divisors.proofs.CallerLemmas.{cell-within, sum_to-ext, sum_to-le, sum_to-suc}
+use Rattle.zh_matrices.proofs.CallerLemmas.{sum_to-add}
 use Rattle.zh_matrices.specs.Question.{Question, cell}
 use Rattle.zh_decided.specs.Prices.{Logs, Priced, cost, priced, row_cost, seat_price}
 use Rattle.zh_decided.specs.Turns.{PassesOn, one_at}
 use Rattle.zh_decided.specs.declared.cycles.Transfer.{Transfer}
-use Rattle.zh_decided.proofs.RoomLemmas.{cell-within}
+use Rattle.zh_decided.proofs.OneMoreLemmas.{sum_to-lowered, sum_to-shifted, sum_to-single}
+use Rattle.zh_decided.proofs.PathTurnLemmas.{columns-differ, rows-differ}
 
 -- `one_at` is 1 at its row
 pub one-here : (a d : ℕ) → d ≡ a → one_at a d ≡ 1
@@ -19,12 +20,7 @@ pub one-else : (a d : ℕ) → d ≢ a → one_at a d ≡ 0
 one-else a d differ = ap (λ b. cond b 1 0) (ne_eqb d a differ)
 
 sum_to-one : (n a : ℕ) → a < n → sum_to n (one_at a) ≡ 1
-sum_to-one zero a lt = absurd (omega arith)
-sum_to-one (suc n) a lt = elim (cases_eq n a) [
-  | inl is ↦
-      omega (arith, sum_to-zero n (one_at a) (λ i below. one-else a i (λ e. omega (arith, e))), one-here a n is)
-  | inr other ↦ omega (arith, sum_to-one n a (omega arith), one-else a n other)
-]
+sum_to-one n a lt = sum_to-single n (one_at a) a lt (λ d below. one-else a d) ∙ one-here a a refl
 
 -- the value of f at row a, and 0 at the other rows
 only : ℕ → (ℕ → ℕ) → ℕ → ℕ
@@ -39,23 +35,7 @@ unfolding only
 only-else a d f differ = rw (one-else a d differ) (omega arith)
 
 sum_to-only : (n a : ℕ) (f : ℕ → ℕ) → a < n → sum_to n (only a f) ≡ f a
-sum_to-only zero a f lt = absurd (omega arith)
-sum_to-only (suc n) a f lt = elim (cases_eq n a) [
-  | inl is ↦
-      let before : sum_to n (only a f) ≡ 0 = sum_to-zero n (only a f) (λ i below. only-else a i f (λ e. omega (arith, e))) in
-      let same : f n ≡ f a = ap f is in
-      omega (arith, before, only-here a n f is, same)
-  | inr other ↦ omega (arith, sum_to-only n a f (omega arith), only-else a n f other)
-]
-
--- cells in different rows or columns have different places
-rows-differ : (n d g e f : ℕ) → g < n → f < n → e ≢ d → e * n + f ≢ d * n + g
-rows-differ n d g e f gn fn differ same =
-    differ (sym (place-div e f n fn) ∙ ap (λ k. k / n) same ∙ place-div d g n gn)
-
-columns-differ : (n d g e f : ℕ) → g < n → f < n → f ≢ g → e * n + f ≢ d * n + g
-columns-differ n d g e f gn fn differ same =
-    differ (sym (place-mod e f n fn) ∙ ap (λ k. k % n) same ∙ place-mod d g n gn)
+sum_to-only n a f lt = sum_to-single n (only a f) a lt (λ d below. only-else a d f) ∙ only-here a a f refl
 
 -- what a cell contains after a cell was written
 written-here : (q : Question) (s : List ℕ) (a c v d : ℕ) → length s ≡ q.rows * q.columns → a < q.rows → c < q.columns → d ≡ a →
@@ -112,41 +92,6 @@ PassesOn-of q s step long an bn cn some m is =
           written-column q m step.taker c more d g cn gn differ
           ∙ ap (λ xs. cell q.columns xs d g) is ∙ written-column q s step.giver c less d g cn gn differ;
     }
-
--- a sum changes as its one changed term does
-sum_to-shifted : (n : ℕ) (f g : ℕ → ℕ) (j x y : ℕ) → j < n → ((i : ℕ) → i < n → i ≢ j → f i ≡ g i) → f j + x ≡ g j + y →
-    sum_to n f + x ≡ sum_to n g + y
-sum_to-shifted zero f g j x y lt same here = absurd (omega arith)
-sum_to-shifted (suc n) f g j x y lt same here = elim (cases_eq n j) [
-  | inl is ↦
-      let before : sum_to n f ≡ sum_to n g = sum_to-ext n f g (λ i below. same i (omega arith) (λ e. omega (arith, e))) in
-      let there : f n + x ≡ g n + y = rw is here in
-      omega (arith, before, there)
-  | inr other ↦
-      omega (
-        arith,
-        sum_to-shifted n f g j x y (omega arith) (λ i below differ. same i (omega arith) differ) here,
-        same n (omega arith)
-            other,
-      )
-]
-
-sum_to-lowered : (n : ℕ) (f g : ℕ → ℕ) (j x y : ℕ) → j < n → ((i : ℕ) → i < n → i ≢ j → f i ≡ g i) → f j + x ≤ g j + y →
-    sum_to n f + x ≤ sum_to n g + y
-sum_to-lowered zero f g j x y lt same here = absurd (omega arith)
-sum_to-lowered (suc n) f g j x y lt same here = elim (cases_eq n j) [
-  | inl is ↦
-      let before : sum_to n f ≡ sum_to n g = sum_to-ext n f g (λ i below. same i (omega arith) (λ e. omega (arith, e))) in
-      let there : f n + x ≤ g n + y = rw is here in
-      omega (arith, before, there)
-  | inr other ↦
-      omega (
-        arith,
-        sum_to-lowered n f g j x y (omega arith) (λ i below differ. same i (omega arith) differ) here,
-        same n (omega arith)
-            other,
-      )
-]
 
 -- the seats of a row
 pub row-passed : (q : Question) (s t : List ℕ) (step : Transfer) → step.column < q.columns → PassesOn q s t step → (d : ℕ) → d < q.rows →

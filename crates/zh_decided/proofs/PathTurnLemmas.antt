@@ -1,28 +1,19 @@
 -- Seats that are placed, and seats that move from row to row.
-use Rattle.std.proofs.Common.{◌≡◌, ◌≢◌, ℕ, ◌+◌, ◌-◌, ◌*◌, ◌/◌, ◌<◌, ◌≤◌, ◌⊎◌, List, length, set, inl, inr, sym, ap, ◌∙◌, arith}
+use Rattle.std.proofs.Common.{◌≡◌, ◌≢◌, ℕ, ◌+◌, ◌-◌, ◌*◌, ◌<◌, ◌⊎◌, List, length, set, inl, inr, sym, ◌∙◌, arith}
 use Rattle.std.proofs.lemmas.Bool.{cases_eq}
 use Rattle.std.proofs.lemmas.List.{get_or-set_other, get_or-set_same, length-set}
-use Rattle.std.proofs.lemmas.Nat.{div-mul-add}
-use Rattle.std.proofs.Math.Nat.{mul-le-mul_right}
-use Rattle.zh_divisors.proofs.CallerLemmas.{sum_to-ext, sum_to-le}
+use Rattle.zh_divisors.proofs.CallerLemmas.{cell-within, same_place, sum_to-ext, sum_to-le}
 use Rattle.zh_matrices.specs.Question.{Question, cell}
 use Rattle.zh_decided.specs.Bounds.{AreAtLeast, AreAtMost, CellBounds}
 use Rattle.zh_decided.specs.Ways.{ArePlaced, ColumnLacks, IsAboveLeast, IsOneMore, IsPassed, RowLacks, column_seats, placed, row_seats}
 use Rattle.zh_decided.proofs.OneMoreLemmas.{sum_to-one_more}
 
--- the place of a cell is within the matrix
-pub cell-within : (m n d g : ℕ) → d < m → g < n → d * n + g < m * n
-cell-within m n d g dm gn =
-    let rows : (d + 1) * n ≤ m * n = mul-le-mul_right n (omega arith) in
-    omega arith
-
 -- cells of different rows, or of different columns, have different places
-rows-differ : (n d g e f : ℕ) → g < n → f < n → e ≢ d → e * n + f ≢ d * n + g
-rows-differ n d g e f gn fn differ same =
-    differ (sym (div-mul-add e n f fn) ∙ ap (λ k. k / n) same ∙ div-mul-add d n g gn)
+pub rows-differ : (n d g e f : ℕ) → g < n → f < n → e ≢ d → e * n + f ≢ d * n + g
+rows-differ n d g e f gn fn differ same = differ (same_place n e f d g fn gn same).0
 
-columns-differ : (n d g f : ℕ) → f ≢ g → d * n + f ≢ d * n + g
-columns-differ n d g f differ same = differ (omega (arith, same))
+pub columns-differ : (n d g e f : ℕ) → g < n → f < n → f ≢ g → e * n + f ≢ d * n + g
+columns-differ n d g e f gn fn differ same = differ (same_place n e f d g fn gn same).1
 
 pub IsOneMore-given : (q : Question) (seats : List ℕ) (d g : ℕ) → length seats ≡ q.rows * q.columns → d < q.rows → g < q.columns →
     IsOneMore q seats (set seats (d * q.columns + g) (cell q.columns seats d g + 1)) d g
@@ -33,7 +24,7 @@ IsOneMore-given q seats d g long dm gn =
       one_each = length-set seats at (cell q.columns seats d g + 1);
       here = get_or-set_same seats at (cell q.columns seats d g + 1) 0 within;
       rows = λ e f em fn differ. get_or-set_other seats at (e * q.columns + f) (cell q.columns seats d g + 1) 0 (rows-differ q.columns d g e f gn fn differ);
-      columns = λ f fn differ. get_or-set_other seats at (d * q.columns + f) (cell q.columns seats d g + 1) 0 (columns-differ q.columns d g f differ);
+      columns = λ f fn differ. get_or-set_other seats at (d * q.columns + f) (cell q.columns seats d g + 1) 0 (columns-differ q.columns d g d f gn fn differ);
     }
 
 pub IsOneMore-taken : (q : Question) (seats : List ℕ) (d g : ℕ) → length seats ≡ q.rows * q.columns → d < q.rows → g < q.columns →
@@ -46,7 +37,7 @@ IsOneMore-taken q seats d g long dm gn some =
       one_each = sym (length-set seats at less);
       here = omega (arith, get_or-set_same seats at less 0 within, some);
       rows = λ e f em fn differ. sym (get_or-set_other seats at (e * q.columns + f) less 0 (rows-differ q.columns d g e f gn fn differ));
-      columns = λ f fn differ. sym (get_or-set_other seats at (d * q.columns + f) less 0 (columns-differ q.columns d g f differ));
+      columns = λ f fn differ. sym (get_or-set_other seats at (d * q.columns + f) less 0 (columns-differ q.columns d g d f gn fn differ));
     }
 
 -- the sums of rows and columns
@@ -67,8 +58,8 @@ column-same q s t d g f fn differ more = sum_to-ext q.rows _ _ (λ e em. elim (c
   | inr other ↦ more.rows e f em fn other
 ])
 
-placed-more : (q : Question) (s t : List ℕ) (d g : ℕ) → d < q.rows → g < q.columns → IsOneMore q s t d g → placed q t ≡ placed q s + 1
-placed-more q s t d g dm gn more =
+pub placed-one_more : (q : Question) (s t : List ℕ) (d g : ℕ) → d < q.rows → g < q.columns → IsOneMore q s t d g → placed q t ≡ placed q s + 1
+placed-one_more q s t d g dm gn more =
     sum_to-one_more q.rows (row_seats q s) (row_seats q t) d dm (λ e em differ. row-same q s t d g e em differ more) (row-more q s t d g gn more)
 
 -- the cells of two matrices, one of which has one more seat
@@ -136,9 +127,6 @@ ArePlaced-taken q b s t d g dm gn less above before =
       at_most = at_most-less q b.most t s d g dm gn less before.at_most;
     }
 
-pub placed-one_more : (q : Question) (s t : List ℕ) (d g : ℕ) → d < q.rows → g < q.columns → IsOneMore q s t d g → placed q t ≡ placed q s + 1
-placed-one_more = placed-more
-
 -- a seat in column g moves from row e to row d: in between, in m, row d has one more
 pub lacks-passed : (q : Question) (b : CellBounds) (s m t : List ℕ) (d e g : ℕ) → e < q.rows → g < q.columns → e ≢ d → IsOneMore q s m d g →
     IsOneMore q t m e g → ArePlaced q b s → RowLacks q t e
@@ -148,7 +136,7 @@ lacks-passed q b s m t d e g em gn differ more less before =
 pub IsPassed-of : (q : Question) (s m t : List ℕ) (d e g : ℕ) → d < q.rows → e < q.rows → g < q.columns → e ≢ d → IsOneMore q s m d g →
     IsOneMore q t m e g → IsPassed q s t e d
 IsPassed-of q s m t d e g dm em gn differ more less = record {
-  placed = omega (arith, placed-more q s m d g dm gn more, placed-more q t m e g em gn less);
+  placed = omega (arith, placed-one_more q s m d g dm gn more, placed-one_more q t m e g em gn less);
   columns = λ f fn. elim (cases_eq f g) [
     | inl is ↦ rw is (omega (arith, column-more q s m d g dm gn more, column-more q t m e g em gn less))
     | inr other ↦ sym (column-same q t m e g f fn other less) ∙ column-same q s m d g f fn other more

@@ -2,11 +2,11 @@
 use Rattle.std.proofs.Common.{◌≡◌, ◌≢◌, ℕ, ◌<◌, ◌≤◌, List, inl, inr, sym, ◌∙◌, arith}
 use Rattle.std.proofs.lemmas.Bool.{cases_eq, cases_lt}
 use Rattle.std.proofs.Math.Nat.{le_of_eq}
+use Rattle.zh_divisors.specs.Sums.{sum_to}
+use Rattle.zh_divisors.proofs.CallerLemmas.{sum_to-lt}
 use Rattle.zh_matrices.specs.Question.{Question, cell}
 use Rattle.zh_decided.specs.Bounds.{CellBounds, IsWithin}
 use Rattle.zh_decided.specs.Ways.{ArePlaced, ColumnLacks, HasNoOtherColumn, HasNoOtherRow, IsAboveLeast, IsOneMore, IsOtherColumn, IsOtherRow, RowLacks}
-use Rattle.zh_decided.specs.Ways.{column_seats, row_seats}
-use Rattle.zh_decided.proofs.CutLemmas.{sum_to-less}
 use Rattle.zh_decided.proofs.PathTurnLemmas.{ArePlaced-taken, column-more, column-same, row-more, row-same}
 
 pub placed-within : (q : Question) (b : CellBounds) (s : List ℕ) → IsWithin q b s → ArePlaced q b s
@@ -18,36 +18,34 @@ placed-within q b s within = record {
   at_most = within.at_most;
 }
 
--- if no other cell of its row, or of its column, can give up a seat, no matrix within the bounds has more seats in the cell
-pub no_other_column : (q : Question) (b : CellBounds) (s : List ℕ) (d g : ℕ) → d < q.rows → g < q.columns → IsWithin q b s → HasNoOtherColumn q b s d g →
-    (t : List ℕ) → IsWithin q b t → cell q.columns t d g ≤ cell q.columns s d g
-no_other_column q b s d g dm gn within none t other = elim (cases_lt (cell q.columns s d g) (cell q.columns t d g)) [
+-- if no term of s but that of j can fall, no t with the same sum has a greater term there
+no_other : (n : ℕ) (s t least : ℕ → ℕ) (j total : ℕ) → j < n → ((i : ℕ) → i < n → i ≢ j → s i ≤ least i) → ((i : ℕ) → i < n → least i ≤ t i) →
+    sum_to n s ≡ total → sum_to n t ≡ total → t j ≤ s j
+no_other n s t least j total within none at_least one other = elim (cases_lt (s j) (t j)) [
   | inl less ↦
-      let sum : row_seats q s d < row_seats q t d
-      = sum_to-less q.columns (cell q.columns s d) (cell q.columns t d) g
-      (λ f fn. elim (cases_eq f g) [
+      let sum : sum_to n s < sum_to n t
+      = sum_to-lt n s t j
+      (λ i lt. elim (cases_eq i j) [
         | inl is ↦ rw is (omega (arith, less))
-        | inr differs ↦ omega (arith, none f fn differs, other.at_least d f dm fn)
+        | inr differs ↦ omega (arith, none i lt differs, at_least i lt)
       ])
-      gn less in
-      absurd (omega (arith, sum, within.rows_add_up d dm, other.rows_add_up d dm))
+      within less in
+      absurd (omega (arith, sum, one, other))
   | inr le ↦ le
 ]
 
+-- if no other cell of its row, or of its column, can give up a seat, no matrix within the bounds has more seats in the cell
+pub no_other_column : (q : Question) (b : CellBounds) (s : List ℕ) (d g : ℕ) → d < q.rows → g < q.columns → IsWithin q b s → HasNoOtherColumn q b s d g →
+    (t : List ℕ) → IsWithin q b t → cell q.columns t d g ≤ cell q.columns s d g
+no_other_column q b s d g dm gn within none t other =
+    no_other q.columns (cell q.columns s d) (cell q.columns t d) (cell q.columns b.least d) g _ gn none (λ f fn. other.at_least d f dm fn)
+    (within.rows_add_up d dm) (other.rows_add_up d dm)
+
 pub no_other_row : (q : Question) (b : CellBounds) (s : List ℕ) (d g : ℕ) → d < q.rows → g < q.columns → IsWithin q b s → HasNoOtherRow q b s d g →
     (t : List ℕ) → IsWithin q b t → cell q.columns t d g ≤ cell q.columns s d g
-no_other_row q b s d g dm gn within none t other = elim (cases_lt (cell q.columns s d g) (cell q.columns t d g)) [
-  | inl less ↦
-      let sum : column_seats q s g < column_seats q t g
-      = sum_to-less q.rows (λ e. cell q.columns s e g) (λ e. cell q.columns t e g) d
-      (λ e em. elim (cases_eq e d) [
-        | inl is ↦ rw is (omega (arith, less))
-        | inr differs ↦ omega (arith, none e em differs, other.at_least e g em gn)
-      ])
-      dm less in
-      absurd (omega (arith, sum, within.columns_add_up g gn, other.columns_add_up g gn))
-  | inr le ↦ le
-]
+no_other_row q b s d g dm gn within none t other =
+    no_other q.rows (λ e. cell q.columns s e g) (λ e. cell q.columns t e g) (λ e. cell q.columns b.least e g) d _ dm none
+    (λ e em. other.at_least e g em gn) (within.columns_add_up g gn) (other.columns_add_up g gn)
 
 -- the matrix after a row and a column have each given up a seat
 pub record IsOpened (q : Question) (b : CellBounds) (s m : List ℕ) (d g : ℕ) : Type 0 where

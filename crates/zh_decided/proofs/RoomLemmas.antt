@@ -1,7 +1,7 @@
 -- Columns so high that no level brings them down to 0.
 use Rattle.std.proofs.Common.{◌≡◌, ℕ, ◌+◌, ◌-◌, ◌*◌, ◌^◌, ◌<◌, ◌≤◌, Option, Some, None, List, All, length, arith}
-use Rattle.std.proofs.Math.Nat.{mul-le-mul_right}
 use Rattle.zh_matrices.specs.Question.{Question, cell}
+use Rattle.zh_divisors.proofs.CallerLemmas.{cell-within}
 use Rattle.zh_decided.specs.Levels.{AreColumnMarks, AreRowMarks, HasRoom, IsLowColumn, IsRowMaker, mark_at, potential_at}
 use Rattle.zh_decided.specs.Prices.{AreLogs, Logs, Priced, priced}
 use Rattle.zh_decided.specs.declared.sweep_bounds.Bounds.{Bounds}
@@ -59,12 +59,6 @@ room-later m bounds levels columns rows lower near given taken few R L has = rec
       gn taken (has.each g gn) (rows-high m bounds (levels + 1) columns rows near given few has R) (L.each g gn).maker in
       omega arith;
 }
-
--- the place of a cell is within the matrix
-pub cell-within : (m n d g : ℕ) → d < m → g < n → d * n + g < m * n
-cell-within m n d g dm gn =
-    let rows : (d + 1) * n ≤ m * n = mul-le-mul_right n (omega arith) in
-    omega arith
 
 -- the prices of seats are near 2^60
 pub priced-near : (q : Question) (l : Logs) (seats : List ℕ) → AreLogs l → length l.of_votes ≡ q.rows * q.columns →

@@ -3,17 +3,17 @@ use Rattle.std.proofs.Common.{◌≡◌, ℕ, ◌+◌, ◌-◌, ◌*◌, ◌^◌
 use Rattle.std.proofs.lemmas.Bool.{cases_lt}
 use Rattle.std.proofs.Math.Nat.{le_of_lt, mul-pos}
 use Rattle.zh_divisors.specs.Rounding.{Rounds}
+use Rattle.zh_matrices.proofs.CallerLemmas.{few-in-cell}
 use Rattle.zh_decided.specs.Logarithms.{IsLog}
 use Rattle.zh_decided.proofs.LogLemmas.{positive_by_log}
 use Rattle.zh_matrices.specs.Divisors.{Divisors}
 use Rattle.zh_matrices.specs.Fitting.{FitsVotes}
 use Rattle.zh_matrices.specs.NearlyTied.{IsNear, NearlyRounds}
 use Rattle.zh_matrices.specs.Question.{AreSeatTotals, Question, cell}
-use Rattle.zh_matrices.specs.SeatMatrix.{IsStrict}
+use Rattle.zh_matrices.specs.SeatMatrix.{EachRounds, Follows, IsStrict}
 use Rattle.zh_decided.specs.Prices.{AreLogs, Logs, priced}
 use Rattle.zh_decided.specs.Sweeps.{AreFair}
 use Rattle.zh_decided.specs.declared.sweep_bounds.Bounds.{Bounds}
-use Rattle.zh_decided.proofs.CycleTurnLemmas.{cell-fitting}
 use Rattle.zh_decided.specs.Tables.{AreLogTables}
 use Rattle.zh_decided.proofs.CellLemmas.{above-lower, below-upper, nearly-above-lower, nearly-below-upper}
 use Rattle.zh_decided.proofs.TableLemmas.{near-factor, price-is}
@@ -29,6 +29,19 @@ pub record AreScaled (q : Question) (e : ℕ) (x : Divisors) (of_row of_column :
   pub columns : (g : ℕ) → g < q.columns → IsLog e 2 (slice_index x.of_columns g) (column_log g)
   pub potentials : (d g : ℕ) → d < q.rows → g < q.columns → row_log d + column_log g + of_row d ≡ 2 ^ 60 + unit + of_column g
 
+-- seats on votes with the totals follow if each cell rounds to its seats
+follows : (rounding : ℕ → ℕ → ℕ → Type 0) (q : Question) (e : ℕ) (x : Divisors) (X Y : ℕ → ℕ) (seats : List ℕ) → FitsVotes q seats →
+    AreScaled q e x X Y → EachRounds rounding q x seats → Follows rounding q x seats
+follows rounding q e x X Y seats F K each = record {
+  one_each = F.one_each;
+  rows_add_up = F.rows_add_up;
+  columns_add_up = F.columns_add_up;
+  scale_positive = K.scale_positive;
+  row_divisors = λ d dm. positive_by_log e 2 (slice_index x.of_rows d) (K.row_log d) (K.rows d dm);
+  column_divisors = λ g gn. positive_by_log e 2 (slice_index x.of_columns g) (K.column_log g) (K.columns g gn);
+  each_rounds = each;
+}
+
 cell-rounds : (q : Question) (l : Logs) (e : ℕ) (x : Divisors) (bounds : Bounds) (X Y : ℕ → ℕ) (seats : List ℕ) → AreLogs l → AreLogTables q l →
     AreSeatTotals q.rows q.row_totals → FitsVotes q seats → AreScaled q e x X Y → AreFair (priced q l seats) bounds 0 0 X Y →
     4 + 2 * e ≤ bounds.given → 6 ≤ bounds.taken → (d g : ℕ) → d < q.rows → g < q.columns →
@@ -40,7 +53,7 @@ cell-rounds q l e x bounds X Y seats A T totals F K fair given taken d g dm gn =
     let S : ℕ = x.scale * x.scale in
     let R : ℕ = slice_index x.of_rows d in
     let C : ℕ = slice_index x.of_columns g in
-    let few : s ≤ 400 = cell-fitting q seats totals F d g dm gn in
+    let few : s ≤ 400 = few-in-cell q seats totals F.rows_add_up d g dm gn in
     elim (cases_lt 0 v) [
       | inl some ↦ record {
         below_upper = below-upper e v (2 * s + 1) S R C V (slice_index l.of_odds s) K.unit (K.row_log d) (K.column_log g)
@@ -67,15 +80,8 @@ cell-rounds q l e x bounds X Y seats A T totals F K fair given taken d g dm gn =
 pub strict : (q : Question) (l : Logs) (e : ℕ) (x : Divisors) (bounds : Bounds) (X Y : ℕ → ℕ) (seats : List ℕ) → AreLogs l → AreLogTables q l →
     AreSeatTotals q.rows q.row_totals → FitsVotes q seats → AreScaled q e x X Y → AreFair (priced q l seats) bounds 0 0 X Y →
     4 + 2 * e ≤ bounds.given → 6 ≤ bounds.taken → IsStrict q x seats
-strict q l e x bounds X Y seats A T totals F K fair given taken = record {
-  one_each = F.one_each;
-  rows_add_up = F.rows_add_up;
-  columns_add_up = F.columns_add_up;
-  scale_positive = K.scale_positive;
-  row_divisors = λ d dm. positive_by_log e 2 (slice_index x.of_rows d) (K.row_log d) (K.rows d dm);
-  column_divisors = λ g gn. positive_by_log e 2 (slice_index x.of_columns g) (K.column_log g) (K.columns g gn);
-  each_rounds = cell-rounds q l e x bounds X Y seats A T totals F K fair given taken;
-}
+strict q l e x bounds X Y seats A T totals F K fair given taken =
+    follows Rounds q e x X Y seats F K (cell-rounds q l e x bounds X Y seats A T totals F K fair given taken)
 
 cell-nearly : (q : Question) (l : Logs) (e a b : ℕ) (x : Divisors) (bounds : Bounds) (X Y : ℕ → ℕ) (seats : List ℕ) → AreLogs l → AreLogTables q l →
     AreSeatTotals q.rows q.row_totals → FitsVotes q seats → AreScaled q e x X Y → AreFair (priced q l seats) bounds a b X Y →
@@ -88,7 +94,7 @@ cell-nearly q l e a b x bounds X Y seats A T totals F K fair given taken d g dm 
     let S : ℕ = x.scale * x.scale in
     let R : ℕ = slice_index x.of_rows d in
     let C : ℕ = slice_index x.of_columns g in
-    let few : s ≤ 400 = cell-fitting q seats totals F d g dm gn in
+    let few : s ≤ 400 = few-in-cell q seats totals F.rows_add_up d g dm gn in
     elim (cases_lt 0 v) [
       | inl some ↦ record {
         to_upper = le_of_lt (nearly-below-upper 131072 8192 e v (2 * s + 1) S R C V (slice_index l.of_odds s) K.unit (K.row_log d) (K.column_log g)
@@ -114,12 +120,5 @@ cell-nearly q l e a b x bounds X Y seats A T totals F K fair given taken d g dm 
 pub near : (q : Question) (l : Logs) (e a b : ℕ) (x : Divisors) (bounds : Bounds) (X Y : ℕ → ℕ) (seats : List ℕ) → AreLogs l → AreLogTables q l →
     AreSeatTotals q.rows q.row_totals → FitsVotes q seats → AreScaled q e x X Y → AreFair (priced q l seats) bounds a b X Y →
     a + 4 + 2 * e ≤ bounds.given + 8192 → b + 6 ≤ bounds.taken + 8192 → IsNear q x seats
-near q l e a b x bounds X Y seats A T totals F K fair given taken = record {
-  one_each = F.one_each;
-  rows_add_up = F.rows_add_up;
-  columns_add_up = F.columns_add_up;
-  scale_positive = K.scale_positive;
-  row_divisors = λ d dm. positive_by_log e 2 (slice_index x.of_rows d) (K.row_log d) (K.rows d dm);
-  column_divisors = λ g gn. positive_by_log e 2 (slice_index x.of_columns g) (K.column_log g) (K.columns g gn);
-  each_rounds = cell-nearly q l e a b x bounds X Y seats A T totals F K fair given taken;
-}
+near q l e a b x bounds X Y seats A T totals F K fair given taken =
+    follows NearlyRounds q e x X Y seats F K (cell-nearly q l e a b x bounds X Y seats A T totals F K fair given taken)

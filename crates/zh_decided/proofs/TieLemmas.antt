@@ -1,7 +1,8 @@
 -- Floating-point divisors, and near ties under them.
-use Rattle.std.proofs.Common.{◌≡◌, ℕ, zero, suc, ◌+◌, ◌-◌, ◌*◌, ◌^◌, ◌<◌, ◌≤◌, List, get_or, slice_index, inl, inr, arith}
+use Rattle.std.proofs.Common.{◌≡◌, ℕ, ◌+◌, ◌-◌, ◌*◌, ◌^◌, ◌<◌, ◌≤◌, List, get_or, slice_index, inl, inr, arith}
 use Rattle.std.proofs.lemmas.Bool.{cases_lt}
-use Rattle.zh_divisors.specs.Sums.{sum_to}
+use Rattle.zh_divisors.proofs.CallerLemmas.{positive_term}
+use Rattle.zh_matrices.proofs.CallerLemmas.{few-in-cell}
 use Rattle.zh_decided.specs.Floats.{floating}
 use Rattle.zh_decided.specs.declared.floating.FloatingDivisors.{FloatingDivisors}
 use Rattle.zh_decided.proofs.FloatLemmas.{of_scale, value_at}
@@ -16,22 +17,10 @@ use Rattle.zh_decided.specs.Sweeps.{StandsFree, of_column, of_row}
 use Rattle.zh_decided.specs.Turns.{KeepsNearlyFair, MakesAnother}
 use Rattle.zh_decided.specs.declared.sweeps.Gap.{Gap}
 use Rattle.zh_decided.specs.declared.sweeps.Potentials.{Potentials}
-use Rattle.zh_decided.proofs.CycleTurnLemmas.{cell-fitting}
 use Rattle.zh_decided.specs.Floated.{AreColumnFloats, AreRowFloats, Fit}
 use Rattle.zh_decided.specs.Tables.{AreLogTables}
 use Rattle.zh_decided.proofs.ScaledLemmas.{AreScaled, near}
 use Rattle.zh_decided.proofs.TableLemmas.{next-dearer, price-is}
-
--- some term of a positive sum is positive
-positive-term : (n : ℕ) (f : ℕ → ℕ) → 0 < sum_to n f → (g : ℕ) × (g < n) × (0 < f g)
-positive-term zero f some = absurd (omega arith)
-positive-term (suc n) f some =
-    elim (cases_lt 0 (f n)) [
-      | inl here ↦ (n, omega arith, here)
-      | inr none ↦
-          let before : (g : ℕ) × (g < n) × (0 < f g) = positive-term n f (omega arith) in
-          (before.0, omega (arith, before.1), before.2)
-    ]
 
 -- the potentials at which a sweep ends are small enough for floating-point divisors, since each row has a seat
 pub fit : (q : Question) (l : Logs) (seats : List ℕ) (given taken : ℕ) (p : Potentials) → AreLogs l → AreLogTables q l →
@@ -40,10 +29,10 @@ fit q l seats given taken p A T totals F S = record {
   rows = λ d dm.
       let some : 1 ≤ get_or q.row_totals d 0 = totals.from_1 d 0 (omega (arith, totals.one_each)) in
       let seated : (g : ℕ) × (g < q.columns) × (0 < cell q.columns seats d g)
-      = positive-term q.columns (λ g. cell q.columns seats d g) (omega (arith, F.rows_add_up d dm)) in
+      = positive_term q.columns (λ g. cell q.columns seats d g) (omega (arith, F.rows_add_up d dm)) in
       let g : ℕ = seated.0 in
       let gn : g < q.columns = seated.1 in
-      let few : cell q.columns seats d g ≤ 400 = cell-fitting q seats totals F d g dm gn in
+      let few : cell q.columns seats d g ≤ 400 = few-in-cell q seats totals F.rows_add_up d g dm gn in
       let small : get_or l.of_odds (cell q.columns seats d g) 0 ≤ 2 ^ 36 = A.small_odds (cell q.columns seats d g) 0 (omega (arith, A.enough)) in
       elim (cases_lt 0 (cell q.columns q.votes d g)) [
         | inl votes ↦ omega (
@@ -100,6 +89,6 @@ pub another : (q : Question) (l : Logs) (seats others : List ℕ) (gap : Gap) �
 another q l seats others gap A T totals F G small makes same =
     let other = makes l gap.cycle_at G.cycle (λ d g dm gn has. omega (
       arith,
-      next-dearer q l A T d g (cell q.columns seats d g) dm gn has (cell-fitting q seats totals F d g dm gn),
+      next-dearer q l A T d g (cell q.columns seats d g) dm gn has (few-in-cell q seats totals F.rows_add_up d g dm gn),
     )) in
     other.4 (same (other.0 * q.columns + other.1))

@@ -1,11 +1,12 @@
 -- A cycle that is only a little cheaper than the potentials allow: its steps are nearly tight, and the matrix is nearly fair
 -- once the cycle is cancelled.
-use Rattle.std.proofs.Common.{◌≡◌, ◌≢◌, ℕ, zero, suc, ◌+◌, ◌-◌, ◌*◌, ◌<◌, ◌≤◌, ◌⊎◌, List, inl, inr, refl, ap, arith}
+use Rattle.std.proofs.Common.{◌≡◌, ◌≢◌, ℕ, zero, suc, ◌+◌, ◌-◌, ◌*◌, ◌<◌, ◌≤◌, ◌⊎◌, List, inl, inr, ⊎_elim, refl, ap, arith}
 use Rattle.std.proofs.lemmas.Bool.{cases_eq}
 use Rattle.zh_divisors.specs.Sums.{sum_to}
-use Rattle.zh_divisors.proofs.CallerLemmas.{term-le-sum_to}
+use Rattle.zh_divisors.proofs.CallerLemmas.{found_or_none, term-le-sum_to}
 use Rattle.zh_matrices.specs.Fitting.{FitsVotes}
 use Rattle.zh_matrices.specs.Question.{AreSeatTotals, Question, cell}
+use Rattle.zh_matrices.proofs.CallerLemmas.{few-in-cell}
 use Rattle.zh_decided.specs.Prices.{AreLogs, Logs, Priced, cells, priced, seat_price}
 use Rattle.zh_decided.specs.Sweeps.{AreFair, CanPass, IsCircle, IsCycle, step_at}
 use Rattle.zh_decided.specs.Turns.{IsTurned, one_at}
@@ -14,7 +15,6 @@ use Rattle.zh_decided.specs.declared.cycles.Cycle.{Cycle}
 use Rattle.zh_decided.proofs.CheapestLemmas.{Rise, prices-rise}
 use Rattle.zh_decided.proofs.CircleLemmas.{around, one_level_more}
 use Rattle.zh_decided.proofs.PassLemmas.{one-else, one-here}
-use Rattle.zh_decided.proofs.CycleTurnLemmas.{cell-fitting}
 
 -- the sum of n equations h + k = f + g + s + e
 slack-sum : (n s : ℕ) (f g h k e : ℕ → ℕ) → ((j : ℕ) → j < n → h j + k j ≡ f j + g j + s + e j) →
@@ -86,17 +86,7 @@ tight m bounds cycle x y more fair C =
 
 -- g is one of the first n values of f, or none of them
 among : (n : ℕ) (f : ℕ → ℕ) (g : ℕ) → ((k : ℕ) × (k < n) × (g ≡ f k)) ⊎ ((k : ℕ) → k < n → g ≢ f k)
-among zero f g = inr (λ k lt. absurd (omega arith))
-among (suc n) f g = elim (cases_eq g (f n)) [
-  | inl here ↦ inl (n, omega arith, here)
-  | inr other ↦ elim (among n f g) [
-    | inl found ↦ inl (found.0, omega (arith, found.1), found.2)
-    | inr none ↦ inr (λ k lt. elim (cases_eq k n) [
-      | inl is ↦ rw is other
-      | inr not ↦ none k (omega arith)
-    ])
-  ]
-]
+among n f g = found_or_none (λ k. g ≡ f k) (λ k. g ≢ f k) (λ k. cases_eq g (f k)) n
 
 -- what is left of the bound of a row, and of a column, if the cell has u seats in place of v
 given-turned : (p : ℕ → ℕ) (a b d u v x y given taken e : ℕ) → Rise p → u ≤ 400 → u + one_at a d ≡ v + one_at b d → x + given ≤ y + p v →
@@ -161,7 +151,7 @@ turned-fair q l bounds before after cycle x y e logs totals F fair C tight T =
             given-turned (seat_price l (d * q.columns + g)) (step_at cycle.steps k).giver (step_at cycle.steps k).taker d (cell q.columns
             after d g)
             (cell q.columns before d g) (x d) (y g) bounds.given bounds.taken e (prices-rise l (d * q.columns + g) logs)
-            (cell-fitting q after totals F d g dm gn) moved (omega (arith, fair.given d g dm gn votes))
+            (few-in-cell q after totals F.rows_add_up d g dm gn) moved (omega (arith, fair.given d g dm gn votes))
             (λ gives. rw (gives, is) (tight.taken k kn))
         | inr away ↦
             let same : (priced q l after).next d g ≡ (priced q l before).next d g
@@ -176,7 +166,7 @@ turned-fair q l bounds before after cycle x y e logs totals F fair C tight T =
             taken-turned (seat_price l (d * q.columns + g)) (step_at cycle.steps k).giver (step_at cycle.steps k).taker d (cell q.columns
             after d g)
             (cell q.columns before d g) (x d) (y g) bounds.given bounds.taken e (prices-rise l (d * q.columns + g) logs)
-            (cell-fitting q after totals F d g dm gn) moved seat (λ some. omega (arith, fair.taken d g dm gn some))
+            (few-in-cell q after totals F.rows_add_up d g dm gn) moved seat (λ some. omega (arith, fair.taken d g dm gn some))
             (λ takes. rw (takes, is) (tight.given k kn))
         | inr away ↦
             let was : cell q.columns after d g ≡ cell q.columns before d g = T.others d g dm gn away in
@@ -188,17 +178,7 @@ turned-fair q l bounds before after cycle x y e logs totals F fair C tight T =
 
 -- some step has a giver that is not its taker, or none has
 moving : (n : ℕ) (f g : ℕ → ℕ) → ((k : ℕ) × (k < n) × (f k ≢ g k)) ⊎ ((k : ℕ) → k < n → f k ≡ g k)
-moving zero f g = inr (λ k lt. absurd (omega arith))
-moving (suc n) f g = elim (cases_eq (f n) (g n)) [
-  | inr here ↦ inl (n, omega arith, here)
-  | inl same ↦ elim (moving n f g) [
-    | inl found ↦ inl (found.0, omega (arith, found.1), found.2)
-    | inr all ↦ inr (λ k lt. elim (cases_eq k n) [
-      | inl is ↦ rw is same
-      | inr not ↦ all k (omega arith)
-    ])
-  ]
-]
+moving n f g = found_or_none (λ k. f k ≢ g k) (λ k. f k ≡ g k) (λ k. ⊎_elim inr inl (cases_eq (f k) (g k))) n
 
 sum_to-above : (n s : ℕ) (f g : ℕ → ℕ) → ((j : ℕ) → j < n → f j + s ≤ g j) → sum_to n f + n * s ≤ sum_to n g
 sum_to-above zero s f g each = omega arith

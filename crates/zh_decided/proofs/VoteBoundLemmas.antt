@@ -2,16 +2,14 @@
 use Rattle.std.proofs.Common.{◌≡◌, ℕ, ◌+◌, ◌*◌, ◌<◌, ◌≤◌, Bool, true, false, cond, ltb, List, length, get_or, slice_index, refl, ◌∙◌, arith}
 use Rattle.std.proofs.lemmas.Bool.{cond-false, cond-true, le-ltb, lt-ltb, ltb-true}
 use Rattle.zh_divisors.specs.Sums.{sum_to}
-use Rattle.zh_divisors.proofs.CallerLemmas.{sum_to-le, sum_to-zero, term-le-sum_to}
+use Rattle.zh_divisors.proofs.CallerLemmas.{cell-within, positive_term, sum_to-le, sum_to-zero, term-le-sum_to}
 use Rattle.zh_matrices.specs.Fitting.{FitsVotes}
 use Rattle.zh_matrices.specs.Question.{AreSeatTotals, Question, cell}
-use Rattle.zh_matrices.proofs.CallerLemmas.{positive_place}
 use Rattle.zh_decided.specs.Bounds.{CellBounds, IsWithin}
 use Rattle.zh_decided.specs.Impossible.{HasTooFewSeats, is_among, seats_there, votes_among}
 use Rattle.zh_decided.specs.Ways.{AreBlocked, AreBoundByVotes, ArePlaced, HasNoSource, column_seats}
 use Rattle.zh_decided.proofs.CutLemmas.{closed-for, due-less, others-least}
 use Rattle.zh_decided.proofs.ImpossibleLemmas.{seats_in, seats_of_rows}
-use Rattle.zh_decided.proofs.PathTurnLemmas.{cell-within}
 
 -- the bounds that votes give
 pub record AreVoteBounds (q : Question) (b : CellBounds) : Type 0 where
@@ -66,7 +64,7 @@ there-le : (q : Question) (b : CellBounds) (seats : List ℕ) (rows : List Bool)
     cond some (slice_index q.column_totals g) 0 ≤ seats_in q rows seats g
 there-le q b seats rows bounds totals blocked g gn false some = omega arith
 there-le q b seats rows bounds totals blocked g gn true some =
-    let (d, dm, positive) = positive_place q.rows (λ d. cond (is_among rows d) (cell q.columns q.votes d g) 0) (ltb-true _ _ some) in
+    let (d, dm, positive) = positive_term q.rows (λ d. cond (is_among rows d) (cell q.columns q.votes d g) 0) (ltb-true _ _ some) in
     let (among, votes) = kept-some (is_among rows d) (cell q.columns q.votes d g) positive in
     let closed : HasNoSource q b seats blocked.ways g
     = closed-for q b seats rows blocked d g dm gn among (has-room q b seats d g bounds totals blocked.each_placed dm gn votes) in

@@ -170,17 +170,11 @@ pub AreSources-none : (q : Question) (b : CellBounds) (seats : List ℕ) (ways :
     ((g : ℕ) → source_at sources g ≡ None) → AreSources q b seats ways sources
 AreSources-none q b seats ways sources none g source gn is = let nothing : source_at sources g ≡ None = none g in cc
 
-pub no_sources : (n g : ℕ) → source_at (replicate n None) g ≡ None
-no_sources n g = elim (cases_lt g n) [
-  | inl inside ↦ get_or-replicate n g None None inside
-  | inr outside ↦ get_or-eq_default (replicate n None) None (omega (arith, length-replicate {A = Option Source} n None))
-]
-
--- a new table has no ways
-pub all_none : (n d : ℕ) → way_at (replicate n None) d ≡ None
-all_none n d = elim (cases_lt d n) [
-  | inl inside ↦ get_or-replicate n d None None inside
-  | inr outside ↦ get_or-eq_default (replicate n None) None (omega (arith, length-replicate {A = Option Way} n None))
+-- a new table has no entries
+pub all_none : {A : Type 0} (n k : ℕ) → get_or (replicate {A = Option A} n None) k None ≡ None
+all_none {A} n k = elim (cases_lt k n) [
+  | inl inside ↦ get_or-replicate n k None None inside
+  | inr outside ↦ get_or-eq_default (replicate n None) None (omega (arith, length-replicate {A = Option A} n None))
 ]
 
 -- the test whether a row has a way

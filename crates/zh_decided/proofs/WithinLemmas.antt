@@ -1,12 +1,11 @@
 -- The lower bounds of the cells, compared with a matrix within the bounds.
-use Rattle.std.proofs.Common.{◌≡◌, ℕ, ◌+◌, ◌*◌, ◌/◌, ◌%◌, ◌<◌, ◌≤◌, List, slice_index, sym, ◌∙◌, arith}
-use Rattle.std.proofs.Math.Nat.{div-add-mod', le_of_eq}
-use Rattle.zh_divisors.proofs.CallerLemmas.{sum_to-ext, sum_to-le}
+use Rattle.std.proofs.Common.{◌≡◌, ℕ, ◌+◌, ◌*◌, ◌<◌, ◌≤◌, List, slice_index, sym, ◌∙◌, arith}
+use Rattle.std.proofs.Math.Nat.{le_of_eq}
+use Rattle.zh_divisors.proofs.CallerLemmas.{cell-within, each_place, sum_to-ext, sum_to-le}
 use Rattle.zh_matrices.specs.Question.{Question, cell}
-use Rattle.zh_matrices.proofs.CallerLemmas.{column_of, row_of, total-swap}
+use Rattle.zh_matrices.proofs.CallerLemmas.{total-swap}
 use Rattle.zh_decided.specs.Bounds.{AreAtLeast, AreAtMost, CellBounds, IsWithin}
 use Rattle.zh_decided.specs.Ways.{AreBalanced, HaveColumnsRoom, HaveRowsRoom, column_seats, row_seats}
-use Rattle.zh_decided.proofs.PathTurnLemmas.{cell-within}
 
 -- if a matrix has all totals, the row totals and the column totals have the same sum
 pub balanced : (q : Question) (b : CellBounds) (t : List ℕ) → IsWithin q b t → AreBalanced q
@@ -47,8 +46,4 @@ least-columns q b seats t least within g gn =
 
 -- the bound of a cell, by its place
 pub at_most-at : (q : Question) (most seats : List ℕ) (k : ℕ) → k < q.rows * q.columns → AreAtMost q most seats → slice_index seats k ≤ slice_index most k
-at_most-at q most seats k lt each =
-    let place : k / q.columns * q.columns + k % q.columns ≡ k = div-add-mod' k q.columns in
-    let here : cell q.columns seats (k / q.columns) (k % q.columns) ≤ cell q.columns most (k / q.columns) (k % q.columns)
-    = each (k / q.columns) (k % q.columns) (row_of q.rows q.columns k lt) (column_of q.rows q.columns k lt) in
-    rw place at here
+at_most-at q most seats k lt each = each_place q.rows q.columns (λ p. slice_index seats p ≤ slice_index most p) each k lt

@@ -4,8 +4,8 @@ use Rattle.std.specs.Prelude.{◌↔◌, replicate, slice_index_or}
 use Rattle.std.proofs.lemmas.List.{get_or-map, get_or-replicate, length-map, length-replicate}
 use Rattle.std.proofs.lemmas.Bool.Decides.{nat_tests}
 use Rattle.zh_divisors.specs.Claims.{TellClaims, HasSameClaim}
-use Rattle.zh_divisors.proofs.CallerLemmas.{only_fit, no_strict_fit}
-use Rattle.zh_divisors.specs.Fit.{IsFit, IsStrictFit, IsTied}
+use Rattle.zh_divisors.proofs.CallerLemmas.{no_strict_fit, only_fit, weak_from_strict}
+use Rattle.zh_divisors.specs.Fit.{IsTied}
 use Rattle.zh_districts.specs.Canton.{Canton}
 use Rattle.zh_districts.specs.Claims.{IsTiedIn, IsUnseated, Tell}
 use Rattle.zh_districts.specs.Seats.{persons, AreSeats}
@@ -15,13 +15,6 @@ zero_if n is = grind (arith, nat_tests)
 
 if_zero : (n : ℕ) → n ≡ 0 → IsTrue (n == 0)
 if_zero n is = rw is refl
-
-weaker : (weights : List ℕ) (house : ℕ) (seats : List ℕ) → IsStrictFit weights house seats → IsFit weights house seats
-weaker weights house seats fit = record {
-  one_each = fit.one_each;
-  add_up = fit.add_up;
-  in_order = λ i j iw jw differ seated. omega (arith, fit.in_order i j iw jw differ seated);
-}
 
 each_persons_length : (canton : Canton) → length (persons canton) ≡ length canton.constituencies
 each_persons_length canton = length-map canton.constituencies (λ x. x.persons)
@@ -45,7 +38,7 @@ told_unseated canton seats are = record {
       let is : slice_index_or (map (λ n. n == 0) seats) k false ≡ (get_or seats k 0 == 0) = get_or-map (λ n. n == 0) seats k 0 false there in (
         λ marked. (seats, are, ap (λ (i : ℕ). get_or seats i 0) same ∙ zero_if (get_or seats k 0) (subst IsTrue is marked)),
         λ it.
-            let equal : it.0 ≡ seats = only_fit (persons canton) canton.house seats it.0 are (weaker (persons canton) canton.house it.0 it.1) in
+            let equal : it.0 ≡ seats = only_fit (persons canton) canton.house seats it.0 are (weak_from_strict (persons canton) canton.house it.0 it.1) in
             let none : get_or seats k 0 ≡ 0 = sym (ap (λ (i : ℕ). get_or seats i 0) same) ∙ ap (λ (xs : List ℕ). get_or xs (k + 1 - 1) 0) (sym equal) ∙ it.2 in
             subst IsTrue (sym is) (if_zero (get_or seats k 0) none),
       );

@@ -1,4 +1,4 @@
--- The mask of the constituencies where a group stands.
+-- Masks: flags as the bits of a number, for example those of the constituencies where a group stands.
 use Rattle.std.proofs.Common.{◌≡◌, ℕ, zero, suc, ◌+◌, ◌*◌, ◌^◌, ◌<◌, ◌≤◌, ◌%◌, Bool, true, false, cond, List, [], ◌∷◌, length, get_or, take, refl, ◌∙◌, arith, add-one}
 use Rattle.std.proofs.Math.Nat.{pow-suc, pow-le-pow_right, mod-eq_of_lt}
 use Rattle.std.proofs.lemmas.Nat.{pow_pos}
@@ -21,25 +21,27 @@ mask_of-lt [] = omega arith
 mask_of-lt (true ∷ xs) = let h = mask_of-lt xs in rw (pow-suc 2 (length xs)) (omega arith)
 mask_of-lt (false ∷ xs) = let h = mask_of-lt xs in rw (pow-suc 2 (length xs)) (omega arith)
 
--- a mask of at most 32 places fits
-pub mask_of-fits : (xs : List Bool) → length xs ≤ 32 → mask_of xs < 2 ^ 32
-mask_of-fits xs short = let h = mask_of-lt xs in let up : 2 ^ length xs ≤ 2 ^ 32 = pow-le-pow_right {n = 2} (omega arith) short in omega arith
+-- a mask of at most `width` places fits
+pub mask_of-fits : (width : ℕ) (xs : List Bool) → length xs ≤ width → mask_of xs < 2 ^ width
+mask_of-fits width xs short =
+    let h = mask_of-lt xs in let up : 2 ^ length xs ≤ 2 ^ width = pow-le-pow_right {n = 2} (omega arith) short in omega arith
 
-bit_fits : (i : ℕ) → i < 32 → 1 * 2 ^ i % 4294967296 ≡ 2 ^ i
-bit_fits i h =
-    let small : suc i ≤ 32 = omega arith in
-    let up : 2 ^ suc i ≤ 2 ^ 32 = pow-le-pow_right {n = 2} (omega arith) small in
+bit_fits : (width i : ℕ) → i < width → 1 * 2 ^ i % 2 ^ width ≡ 2 ^ i
+bit_fits width i h =
+    let small : suc i ≤ width = omega arith in
+    let up : 2 ^ suc i ≤ 2 ^ width = pow-le-pow_right {n = 2} (omega arith) small in
     let positive = pow_pos i in
     let twice : 2 ^ suc i ≡ 2 * 2 ^ i = rw (pow-suc 2 i) (omega arith) in
-    mod-eq_of_lt {n = 1 * 2 ^ i} {m = 4294967296} (omega arith) ∙ omega arith
+    mod-eq_of_lt {n = 1 * 2 ^ i} {m = 2 ^ width} (omega arith) ∙ omega arith
 
--- the mask after a place where the group stands
-pub mask_of-here : (xs : List Bool) (i m : ℕ) → i < length xs → length xs ≤ 32 → get_or xs i false ≡ true → m ≡ mask_of (take i xs) → m + 1 * 2 ^ i % 4294967296 ≡ mask_of (take (i + 1) xs)
-mask_of-here xs i m within short here so_far =
+-- the mask after a place that is set
+pub mask_of-here : (width : ℕ) (xs : List Bool) (i m : ℕ) → i < length xs → length xs ≤ width → get_or xs i false ≡ true → m ≡ mask_of (take i xs) →
+    m + 1 * 2 ^ i % 2 ^ width ≡ mask_of (take (i + 1) xs)
+mask_of-here width xs i m within short here so_far =
     let more = mask_of-more xs i false within in
-    rw (add-one i, more, here, bit_fits i (omega arith), so_far) refl
+    rw (add-one i, more, here, bit_fits width i (omega arith), so_far) refl
 
--- the mask after a place where it does not
+-- the mask after a place that is not set
 pub mask_of-not_here : (xs : List Bool) (i m : ℕ) → i < length xs → get_or xs i false ≡ false → m ≡ mask_of (take i xs) → m ≡ mask_of (take (i + 1) xs)
 mask_of-not_here xs i m within here so_far =
     let more = mask_of-more xs i false within in

@@ -104,7 +104,7 @@ groups_tell n few x y c d px py e =
     let apart = same_front (to_be_bytes w32 (mask_of x.stands)) (to_be_bytes w32 (mask_of y.stands)) (name_spelling x.name ++ c)
     (name_spelling y.name ++ d) refl (sym (append_assoc (to_be_bytes w32 (mask_of x.stands)) (name_spelling x.name) c) ∙ e
     ∙ append_assoc (to_be_bytes w32 (mask_of y.stands)) (name_spelling y.name) d) in
-    let mask = same_32 (mask_of x.stands) (mask_of y.stands) (mask_of-fits x.stands (omega arith)) (mask_of-fits y.stands (omega arith)) apart.0 in
+    let mask = same_32 (mask_of x.stands) (mask_of y.stands) (mask_of-fits 32 x.stands (omega arith)) (mask_of-fits 32 y.stands (omega arith)) apart.0 in
     let stands = same_mask x.stands y.stands (px ∙ sym py) mask in
     let name = same_name x.name y.name c d apart.1 in
     (same_group x y name.0 stands, name.1)

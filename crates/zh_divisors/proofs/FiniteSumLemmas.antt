@@ -1,9 +1,10 @@
 -- Finite sums and rounding.
-use Rattle.std.proofs.Common.{◌≡◌, ℕ, zero, suc, ◌+◌, ◌-◌, ◌*◌, ◌/◌, ◌<◌, ◌≤◌, refl, inl, inr, arith, add-one}
-use Rattle.std.proofs.lemmas.Bool.{cases_eq}
+use Rattle.std.proofs.Common.{◌≡◌, ◌≢◌, ℕ, zero, suc, ◌+◌, ◌-◌, ◌*◌, ◌/◌, ◌<◌, ◌≤◌, refl, inl, inr, sym, arith, add-one}
+use Rattle.std.proofs.lemmas.Bool.{cases_eq, cases_lt}
 use Rattle.std.proofs.Math.Nat.{le-div_iff_mul-le, div-lt_iff_lt-mul}
 use Rattle.zh_divisors.specs.Line.{half_up, half_down}
 use Rattle.zh_divisors.specs.Sums.{sum_to}
+use Rattle.zh_divisors.proofs.BelowLemmas.{found_or_none}
 
 pub sum_to-suc : (n : ℕ) (f : ℕ → ℕ) → sum_to (n + 1) f ≡ sum_to n f + f n
 sum_to-suc n f = rw add-one refl
@@ -33,12 +34,41 @@ sum_to-lt (suc n) f g j below within less =
       | inr other ↦ omega (arith, sum_to-lt n f g j (λ i lt. below i (omega arith)) (omega arith) less, below n (omega arith))
     ]
 
+-- one term changes
+pub sum_to-changed : (n : ℕ) (f g : ℕ → ℕ) (j : ℕ) → j < n → ((i : ℕ) → i < n → i ≢ j → f i ≡ g i) → sum_to n f + g j ≡ sum_to n g + f j
+sum_to-changed zero f g j within same = absurd (omega arith)
+sum_to-changed (suc n) f g j within same = elim (cases_eq j n) [
+  | inl is ↦
+      let before : sum_to n f ≡ sum_to n g = sum_to-ext n f g (λ i lt. same i (omega arith) (λ e. omega (arith, e))) in
+      rw is (omega (arith, before))
+  | inr other ↦
+      let before : sum_to n f + g j ≡ sum_to n g + f j
+      = sum_to-changed n f g j (omega arith) (λ i lt ne. same i (omega arith) ne) in
+      let here : f n ≡ g n = same n (omega arith) (λ e. other (sym e)) in
+      omega (arith, before, here)
+]
+
+-- the first terms add up to at most the whole sum
+pub sum_to-fewer : (n m : ℕ) (f : ℕ → ℕ) → n ≤ m → sum_to n f ≤ sum_to m f
+sum_to-fewer n zero f le = let none : n ≡ 0 = omega arith in rw none (omega arith)
+sum_to-fewer n (suc m) f le = elim (cases_eq n (suc m)) [
+  | inl all ↦ rw all (omega arith)
+  | inr less ↦ omega (arith, sum_to-fewer n m f (omega arith))
+]
+
 -- a term is at most the sum
 pub term-le-sum_to : (n : ℕ) (f : ℕ → ℕ) (i : ℕ) → i < n → f i ≤ sum_to n f
 term-le-sum_to zero f i lt = absurd (omega arith)
 term-le-sum_to (suc n) f i lt = elim (cases_eq i n) [
   | inl is ↦ rw is (omega arith)
   | inr other ↦ omega (arith, term-le-sum_to n f i (omega arith))
+]
+
+-- a positive sum has a positive term
+pub positive_term : (n : ℕ) (f : ℕ → ℕ) → 0 < sum_to n f → (i : ℕ) × (i < n) × (0 < f i)
+positive_term n f some = elim (found_or_none (λ i. 0 < f i) (λ i. f i ≤ 0) (λ i. cases_lt 0 (f i)) n) [
+  | inl found ↦ found
+  | inr none ↦ absurd (omega (arith, some, sum_to-zero n f (λ i lt. omega (arith, none i lt))))
 ]
 
 -- rounding half up and half down, compared with the half above a number

@@ -1,3 +1,4 @@
+mod BelowLemmas
 pub mod CallerLemmas
 mod ClaimLemmas
 mod DivisorLemmas
@@ -10,6 +11,7 @@ mod LineTotalsLemmas
 mod NextSeatLemmas
 mod OneFitLemmas
 mod PassingLemmas
+mod PlaceLemmas
 mod RatioLemmas
 mod SumLemmas
 mod WorthLemmas

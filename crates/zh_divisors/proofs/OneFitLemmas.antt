@@ -8,6 +8,13 @@ use Rattle.zh_divisors.specs.Shares.{Apportionment, RoundsEach}
 use Rattle.zh_divisors.proofs.RatioLemmas.{lt_by_lt_le}
 use Rattle.zh_divisors.proofs.SumLemmas.{same-from_sum}
 
+pub weak_from_strict : (weights : List ℕ) (house : ℕ) (seats : List ℕ) → IsStrictFit weights house seats → IsFit weights house seats
+weak_from_strict weights house seats fit = record {
+  one_each = fit.one_each;
+  add_up = fit.add_up;
+  in_order = λ i j iw jw differ seated. omega (arith, fit.in_order i j iw jw differ seated);
+}
+
 -- it is impossible that one weight has more seats in another fit and a second weight has fewer there
 no_exchange : (weights seats others : List ℕ) (house : ℕ) → IsStrictFit weights house seats → IsFit weights house others →
     (i j : ℕ) → i < length weights → j < length weights →

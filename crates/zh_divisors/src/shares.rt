@@ -43,7 +43,8 @@ impl Model for Shares {
 }
 
 impl Shares {
-    pub(crate) fn new(seats: Vec<u32>, num: u64, den: u32) -> Self
+    /// These seats and the divisor that gives them.
+    pub fn new(seats: Vec<u32>, num: u64, den: u32) -> Self
         ensures { result ≡ record { seats = seats.items; num = num; den = den } }
     {
         Shares { seats, num, den }

@@ -1,16 +1,15 @@
 -- Matrices that follow weakly are those within the bounds of their cells.
-use Rattle.std.proofs.Common.{◌≡◌, ◌≢◌, ℕ, ◌+◌, ◌*◌, ◌-◌, ◌/◌, ◌%◌, ◌^◌, ◌<◌, ◌≤◌, min, Bool, true, false, IsTrue, List, length, get_or, inl, inr, refl, sym, ap, ◌∙◌, arith}
+use Rattle.std.proofs.Common.{◌≡◌, ◌≢◌, ℕ, ◌+◌, ◌*◌, ◌-◌, ◌/◌, ◌^◌, ◌<◌, ◌≤◌, min, Bool, true, false, IsTrue, List, get_or, inl, inr, refl, ap, ◌∙◌, arith}
 use Rattle.std.proofs.lemmas.Bool.{cases_lt}
 use Rattle.std.specs.Bool.{OnFalse, OnTrue}
-use Rattle.std.proofs.lemmas.List.{ext_get_or}
 use Rattle.std.proofs.lemmas.List.FromFn.{get_or-map-range_with_len}
-use Rattle.std.proofs.Math.Nat.{div-add-mod', div-lt_iff_lt-mul, le-div_iff_mul-le, le_antisymm, mul-le-mul_right, mul-mod_right, mul-pos}
+use Rattle.std.proofs.Math.Nat.{div-lt_iff_lt-mul, le-div_iff_mul-le, le_antisymm, mul-le-mul_right, mul-mod_right, mul-pos}
 use Rattle.zh_divisors.specs.Line.{half_down, half_up}
-use Rattle.zh_divisors.proofs.CallerLemmas.{half_up-at_least, term-le-sum_to}
+use Rattle.zh_divisors.proofs.CallerLemmas.{cell-within, column_of, half_down-at_most, half_up-at_least, place-div, place-mod, row_of, same_table}
 use Rattle.zh_matrices.specs.Divisors.{AreWithinLimits, Divisors, millionths}
 use Rattle.zh_matrices.specs.Question.{Question, cell}
-use Rattle.zh_matrices.specs.SeatMatrix.{IsWeak, MayRound, RowsAddUp}
-use Rattle.zh_matrices.proofs.CallerLemmas.{column_of, place-div, place-mod, row_of}
+use Rattle.zh_matrices.specs.SeatMatrix.{IsWeak, MayRound}
+use Rattle.zh_matrices.proofs.CallerLemmas.{few-in-cell}
 use Rattle.zh_decided.specs.Bounds.{IsWithin}
 use Rattle.zh_lower.specs.Outcomes.{AreTwoWays, IsNotTied, IsProper}
 use Rattle.zh_lower.specs.Places.{HasNoHalf, product_at}
@@ -23,12 +22,6 @@ record IsBetween (n p s : ℕ) : Type 0 where
   from : min 401 (half_down n p) ≤ s
   to : s ≤ min 401 (half_up n p)
 
-down-below : (n p s : ℕ) → 0 < p → 2 * n ≤ (2 * s + 1) * p → half_down n p ≤ s
-down-below n p s positive upper =
-    let twice : 0 < 2 * p = omega arith in
-    let less : (2 * n + p - 1) / (2 * p) < s + 1 = (div-lt_iff_lt-mul twice).1 (omega arith) in
-    omega arith
-
 up-above : (n p s : ℕ) → 0 < p → MayRound n p s → s ≤ half_up n p
 up-above n p s positive rounds = elim (cases_lt 0 s) [
   | inl some ↦
@@ -40,7 +33,7 @@ up-above n p s positive rounds = elim (cases_lt 0 s) [
 
 between : (n p s : ℕ) → 0 < p → s ≤ 400 → MayRound n p s → IsBetween n p s
 between n p s positive few rounds =
-    let down : half_down n p ≤ s = down-below n p s positive rounds.to_upper in
+    let down : half_down n p ≤ s = half_down-at_most n p s positive rounds.to_upper in
     let up : s ≤ half_up n p = up-above n p s positive rounds in
     record { from = omega arith; to = omega arith }
 
@@ -84,17 +77,6 @@ up-down n p positive =
     let above : (2 * n + p) / (2 * p) < (2 * n + p - 1) / (2 * p) + 2 = (div-lt_iff_lt-mul twice).1 near in
     omega (arith, above)
 
--- a row has at most 400 seats, and so has each of its cells
-few_seats : (q : Question) (s : List ℕ) (d g : ℕ) → IsProper q → RowsAddUp q s → d < q.rows → g < q.columns → cell q.columns s d g ≤ 400
-few_seats q s d g proper add_up dw gw =
-    let total : get_or q.row_totals d 0 ≤ 400 = proper.row_totals.at_most_400 d 0 (omega (arith, proper.row_totals.one_each)) in
-    omega (arith, term-le-sum_to q.columns (cell q.columns s d) g gw, add_up d dw)
-
-place-within : (m n d g : ℕ) → d < m → g < n → d * n + g < m * n
-place-within m n d g dw gw =
-    let rows = mul-le-mul_right n dw in
-    omega (arith, rows)
-
 product-cell : (q : Question) (x : Divisors) (d g : ℕ) → g < q.columns →
     product_at q x (d * q.columns + g) ≡ get_or x.of_rows d 0 * get_or x.of_columns g 0
 product-cell q x d g gw = rw (place-div d g q.columns gw, place-mod d g q.columns gw) refl
@@ -103,14 +85,14 @@ least-cell : (q : Question) (x : Divisors) (d g : ℕ) → d < q.rows → g < q.
     ≡ min 401 (half_down (cell q.columns q.votes d g * 10 ^ 12) (get_or x.of_rows d 0 * get_or x.of_columns g 0))
 least-cell q x d g dw gw =
     get_or-map-range_with_len (least_at q x) 0 (q.rows * q.columns) (d * q.columns + g) (d * q.columns + g) 0
-    (place-within q.rows q.columns d g dw gw) (omega arith)
+    (cell-within q.rows q.columns d g dw gw) (omega arith)
     ∙ ap (λ p. min 401 (half_down (cell q.columns q.votes d g * 10 ^ 12) p)) (product-cell q x d g gw)
 
 most-cell : (q : Question) (x : Divisors) (d g : ℕ) → d < q.rows → g < q.columns → cell q.columns (most_seats q x) d g
     ≡ min 401 (half_up (cell q.columns q.votes d g * 10 ^ 12) (get_or x.of_rows d 0 * get_or x.of_columns g 0))
 most-cell q x d g dw gw =
     get_or-map-range_with_len (most_at q x) 0 (q.rows * q.columns) (d * q.columns + g) (d * q.columns + g) 0
-    (place-within q.rows q.columns d g dw gw) (omega arith)
+    (cell-within q.rows q.columns d g dw gw) (omega arith)
     ∙ ap (λ p. min 401 (half_up (cell q.columns q.votes d g * 10 ^ 12) p)) (product-cell q x d g gw)
 
 -- a matrix that follows weakly is within the bounds
@@ -118,7 +100,7 @@ weak-between : (q : Question) (of_rows of_columns s : List ℕ) → IsProper q �
     (d g : ℕ) → d < q.rows → g < q.columns →
     IsBetween (cell q.columns q.votes d g * 10 ^ 12) (get_or of_rows d 0 * get_or of_columns g 0) (cell q.columns s d g)
 weak-between q of_rows of_columns s proper weak d g dw gw =
-    between _ _ _ (mul-pos (weak.row_divisors d dw) (weak.column_divisors g gw)) (few_seats q s d g proper weak.rows_add_up dw gw)
+    between _ _ _ (mul-pos (weak.row_divisors d dw) (weak.column_divisors g gw)) (few-in-cell q s proper.row_totals weak.rows_add_up d g dw gw)
     (weak.each_rounds d g dw gw)
 
 pub weak-within : (q : Question) (of_rows of_columns s : List ℕ) → IsProper q → IsWeak q (millionths of_rows of_columns) s →
@@ -159,7 +141,7 @@ within-weak q of_rows of_columns s proper limits within = record {
   column_divisors = column-positive q of_rows of_columns limits;
   each_rounds = λ d g dw gw.
       may_round _ _ _ (mul-pos (row-positive q of_rows of_columns limits d dw) (column-positive q of_rows of_columns limits g gw))
-      (few_seats q s d g proper within.rows_add_up dw gw)
+      (few-in-cell q s proper.row_totals within.rows_add_up d g dw gw)
       (within-between q (millionths of_rows of_columns) s within d g dw gw);
 }
 
@@ -232,20 +214,13 @@ no_half-le n p s t none one other = elim (cases_lt t s) [
   | inr ge ↦ omega (arith, ge)
 ]
 
-same_by_cells : (q : Question) (s t : List ℕ) → length s ≡ q.rows * q.columns → length t ≡ q.rows * q.columns →
-    ((d g : ℕ) → d < q.rows → g < q.columns → cell q.columns s d g ≡ cell q.columns t d g) → s ≡ t
-same_by_cells q s t one other same = ext_get_or 0 s t (one ∙ sym other) (λ k lt.
-    let within : k < q.rows * q.columns = omega (arith, one) in
-    let place : k / q.columns * q.columns + k % q.columns ≡ k = div-add-mod' k q.columns in
-    rw place at (same (k / q.columns) (k % q.columns) (row_of q.rows q.columns k within) (column_of q.rows q.columns k within)))
-
 pub not_tied-without : (q : Question) (of_rows of_columns : List ℕ) → HasNoHalf q (millionths of_rows of_columns) →
     IsNotTied q (millionths of_rows of_columns)
 not_tied-without q of_rows of_columns none seats others ways =
     let x : Divisors = millionths of_rows of_columns in
     let no_half : (d g : ℕ) → d < q.rows → g < q.columns →
     ¬ IsTrue (is_half (cell q.columns q.votes d g * 10 ^ 12) (get_or of_rows d 0 * get_or of_columns g 0))
-    = λ d g dw gw half. none (d * q.columns + g) (place-within q.rows q.columns d g dw gw) (half_there q x d g refl gw half) in
-    ways.differ (same_by_cells q seats others ways.one_way.one_each ways.other_way.one_each (λ d g dw gw.
+    = λ d g dw gw half. none (d * q.columns + g) (cell-within q.rows q.columns d g dw gw) (half_there q x d g refl gw half) in
+    ways.differ (same_table q.rows q.columns seats others ways.one_way.one_each ways.other_way.one_each (λ d g dw gw.
     le_antisymm (no_half-le _ _ _ _ (no_half d g dw gw) (ways.one_way.each_rounds d g dw gw) (ways.other_way.each_rounds d g dw gw))
     (no_half-le _ _ _ _ (no_half d g dw gw) (ways.other_way.each_rounds d g dw gw) (ways.one_way.each_rounds d g dw gw))))

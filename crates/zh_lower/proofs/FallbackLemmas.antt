@@ -5,19 +5,18 @@ use Rattle.zh_divisors.proofs.CallerLemmas.{sum_to-ext}
 use Rattle.zh_matrices.specs.Divisors.{Divisors}
 use Rattle.zh_matrices.specs.Question.{AreSeatTotals, Question, cell}
 use Rattle.zh_matrices.specs.SeatMatrix.{IsStrict, IsWeak}
-use Rattle.zh_matrices.proofs.CallerLemmas.{total-swap, weakened}
+use Rattle.zh_matrices.proofs.CallerLemmas.{few-in-cells, total-swap}
 use Rattle.zh_decided.specs.Decisions.{LeavesNone}
 use Rattle.zh_decided.specs.Rooms.{Findings}
 use Rattle.zh_decided.specs.Ways.{AreBalanced}
 use Rattle.zh_decided.specs.declared.decision.Decision.{Decision}
 use Rattle.zh_decided.specs.declared.decision.Decision.TheVariants.{Beyond, Impossible, NearlyTied, Seats}
 use Rattle.zh_lower.specs.Tried.{AreTried}
-use Rattle.zh_decided.proofs.CallerLemmas.{fits-weak, few-fitting}
 
 -- seats that follow from divisors are at most 400 in each cell
 pub few-strict : (q : Question) (x : Divisors) (seats : List ℕ) → AreSeatTotals q.rows q.row_totals → IsStrict q x seats →
     All (λ s. s ≤ 400) seats
-few-strict q x seats totals strict = few-fitting q seats totals (fits-weak q x seats (weakened q x seats strict))
+few-strict q x seats totals strict = few-in-cells q seats totals strict.one_each strict.rows_add_up
 
 -- if seats follow, the row totals and the column totals have the same sum
 pub balanced : (q : Question) (x : Divisors) (seats : List ℕ) → IsWeak q x seats → AreBalanced q

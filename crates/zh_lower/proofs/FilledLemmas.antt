@@ -2,7 +2,6 @@
 use Rattle.std.proofs.Common.{◌≡◌, ℕ, ◌+◌, ◌^◌, ◌<◌, ◌≤◌, List, map, replicate, length, get_or, set, inl, inr, refl, ap, ◌∙◌, arith}
 use Rattle.std.proofs.lemmas.Bool.{cases_eq}
 use Rattle.std.proofs.lemmas.List.{get_or-replicate, get_or-set_other, get_or-set_same, length-replicate, length-set}
-use Rattle.std.proofs.lemmas.List.Edits.{fill_by_more}
 use Rattle.std.specs.List.{range_with_len}
 use Rattle.std.proofs.lemmas.List.FromFn.{fill_by_all, get_or-map-range_with_len, length-map-range_with_len}
 use Rattle.std.proofs.lemmas.List.Elements.{All-from_get_or, All-set}
@@ -11,15 +10,10 @@ use Rattle.zh_matrices.specs.Question.{Question}
 use Rattle.zh_lower.specs.States.{middle_row, start, started_columns}
 use Rattle.zh_lower.proofs.LineLemmas.{IsRenewedBy}
 
--- one more place is filled
-pub filled : (f : ℕ → ℕ) (xs : List ℕ) (i value : ℕ) → i < length xs → value ≡ f i → ((k : ℕ) → k < i → get_or xs k 0 ≡ f k) →
-    (k : ℕ) → k < i + 1 → get_or (set xs i value) k 0 ≡ f k
-filled f xs i value within is done = rw is (fill_by_more f xs i 0 within done)
-
--- a property of each place that is filled
-pub each_filled : (P : ℕ → Type 0) (xs : List ℕ) (i value : ℕ) → i < length xs → P value → ((k : ℕ) → k < i → P (get_or xs k 0)) →
-    (k : ℕ) → k < i + 1 → P (get_or (set xs i value) k 0)
-each_filled P xs i value within here done k lt = elim (cases_eq k i) [
+-- what is true of each place so far, and of one more
+pub each_set : (P : ℕ → ℕ → Type 0) (xs : List ℕ) (i value : ℕ) → i < length xs → P i value → ((k : ℕ) → k < i → P k (get_or xs k 0)) →
+    (k : ℕ) → k < i + 1 → P k (get_or (set xs i value) k 0)
+each_set P xs i value within here done k lt = elim (cases_eq k i) [
   | inl is ↦ rw (is, get_or-set_same xs i value 0 within) here
   | inr other ↦ rw (get_or-set_other xs i k value 0 other) (done k (omega arith))
 ]
@@ -52,7 +46,7 @@ none_renewed n most f xs divisors = record { done = λ k lt. absurd (omega (arit
 pub one_renewed : (n most : ℕ) (f : ℕ → ℕ) (before xs : List ℕ) (i value : ℕ) → i < n → IsRenewedBy most value (f i) →
     AreRenewed n most f before xs i → AreRenewed n most f before (set xs i value) (i + 1)
 one_renewed n most f before xs i value lt by renewed = record {
-  done = filled f xs i value (omega (arith, renewed.divisors.one_each)) by.is renewed.done;
+  done = each_set (λ k x. x ≡ f k) xs i value (omega (arith, renewed.divisors.one_each)) by.is renewed.done;
   rest = λ k le. get_or-set_other xs i k value 0 (omega arith) ∙ renewed.rest k (omega arith);
   divisors = AreWithin-set n most i value xs by.from_1 by.at_most renewed.divisors;
 }

@@ -6,12 +6,11 @@ use Rattle.std.proofs.lemmas.List.Elements.{All-from_get_or}
 use Rattle.std.proofs.Math.ListN.{get_or-eq_default}
 use Rattle.zh_divisors.specs.Line.{IsMatrixLine, half_up, half_down, half_up_total, half_down_total, least_passing, greatest_passing, limit_of, least_divisor, greatest_divisor, clamped, line_divisor}
 use Rattle.zh_divisors.specs.Sums.{sum_to}
-use Rattle.zh_divisors.proofs.CallerLemmas.{sum_to-ext}
+use Rattle.zh_divisors.proofs.CallerLemmas.{positive_term, sum_to-ext}
 use Rattle.zh_matrices.specs.Divisors.{AreWithin}
 use Rattle.zh_lower.specs.Outcomes.{IsProper}
 use Rattle.zh_matrices.specs.Question.{IsSized, Question, cell, column_votes, row_votes}
 use Rattle.zh_lower.specs.States.{is_unsettled, renewed}
-use Rattle.zh_matrices.proofs.CallerLemmas.{positive_place}
 
 least_passing-same : (p r : ℕ → Bool) (limit : ℕ) → ((D : ℕ) → p D ≡ r D) → least_passing p limit ≡ least_passing r limit
 least_passing-same p r zero same = refl
@@ -56,7 +55,7 @@ IsMatrixLine-of n most f votes others few wide long at small some divisors = rec
   at_most_32 = omega arith;
   same_length = divisors.one_each ∙ sym long;
   some_vote =
-      let (i, lt, positive) = positive_place n f some in
+      let (i, lt, positive) = positive_term n f some in
       let there : 0 < get_or votes i 0 = rw (at i lt) positive in
       (i, get_or votes i 0, omega arith, get_or_default votes i (get_or votes i 0) 0 (omega arith), there);
   each_vote = All-from_get_or (λ v. v ≤ 10 ^ 14) votes 0 (λ i lt. rw (at i (omega arith)) (small i (omega arith)));

@@ -2,12 +2,14 @@
 use Rattle.std.proofs.Common.{◌≡◌, ◌≢◌, ℕ, ◌+◌, ◌*◌, ◌/◌, ◌%◌, ◌<◌, ◌≤◌, List, length, get_or, set, slice_index, inl, inr, refl, ap, ◌∙◌, arith}
 use Rattle.std.proofs.lemmas.Bool.{cases_lt}
 use Rattle.std.proofs.lemmas.List.{get_or-set_other, get_or-set_same}
-use Rattle.std.proofs.Math.Nat.{div-add-mod', mul-le-mul_right}
+use Rattle.std.proofs.Math.Nat.{div-add-mod'}
 use Rattle.zh_matrices.specs.Divisors.{millionths}
 use Rattle.zh_matrices.specs.Lots.{AreRanges, IsDrawnAt}
 use Rattle.zh_matrices.specs.Question.{Question, cell}
-use Rattle.zh_matrices.proofs.CallerLemmas.{column_of, one_set, place-div, place-mod, row_of}
+use Rattle.zh_divisors.proofs.CallerLemmas.{cell-within, place-div, place-mod}
+use Rattle.zh_matrices.proofs.CallerLemmas.{one_set}
 use Rattle.zh_decided.specs.Bounds.{CellBounds, IsAnotherAt, IsFixedAt, IsWithin}
+use Rattle.zh_decided.proofs.CallerLemmas.{at_most-at}
 use Rattle.zh_lower.specs.SearchRooms.{divisors_of}
 use Rattle.zh_lower.specs.SeatBounds.{seat_bounds}
 use Rattle.zh_lower.proofs.BoundLemmas.{most-near, weak-within, within-weak}
@@ -21,15 +23,11 @@ there q seats place = ap (λ p. slice_index seats p) (div-add-mod' place q.colum
 -- a matrix within the bounds, in a place
 at_least : (q : Question) (bounds : CellBounds) (seats : List ℕ) (place : ℕ) → place < q.rows * q.columns → IsWithin q bounds seats →
     slice_index bounds.least place ≤ slice_index seats place
-at_least q bounds seats place lt within =
-    rw (there q seats place, there q bounds.least place) at
-    (within.at_least (place / q.columns) (place % q.columns) (row_of q.rows q.columns place lt) (column_of q.rows q.columns place lt))
+at_least q bounds seats place lt within = at_most-at q seats bounds.least place lt within.at_least
 
 at_most : (q : Question) (bounds : CellBounds) (seats : List ℕ) (place : ℕ) → place < q.rows * q.columns → IsWithin q bounds seats →
     slice_index seats place ≤ slice_index bounds.most place
-at_most q bounds seats place lt within =
-    rw (there q seats place, there q bounds.most place) at
-    (within.at_most (place / q.columns) (place % q.columns) (row_of q.rows q.columns place lt) (column_of q.rows q.columns place lt))
+at_most q bounds seats place lt within = at_most-at q bounds.most seats place lt within.at_most
 
 drawn_there : (q : Question) (bounds : CellBounds) (seats : List ℕ) (place number : ℕ) → EncloseDraws q bounds → IsWithin q bounds seats →
     slice_index seats place ≡ number → IsDrawnAt q (place / q.columns) (place % q.columns) number
@@ -98,9 +96,6 @@ fixed_by_bounds q bounds seats place lt within one = λ others also.
       at_most q bounds others place lt also,
     )
 
-place_below : (m n d g : ℕ) → d < m → g < n → d * n + g < m * n
-place_below m n d g dm gn = let rows : (d + 1) * n ≤ m * n = mul-le-mul_right n (omega arith) in omega arith
-
 -- the ranges of all cells, from those of all places
 pub all_ranges : (q : Question) (least most : List ℕ) → length least ≡ q.rows * q.columns → length most ≡ q.rows * q.columns →
     ((place : ℕ) → place < q.rows * q.columns → HasRangeAt q place (slice_index least place) (slice_index most place)) →
@@ -109,7 +104,7 @@ all_ranges q least most one_least_each one_most_each each = record {
   one_least_each = one_least_each;
   one_most_each = one_most_each;
   ranges = λ d g dm gn.
-      rw (place-div d g q.columns gn, place-mod d g q.columns gn) at (each (d * q.columns + g) (place_below q.rows q.columns d g dm gn));
+      rw (place-div d g q.columns gn, place-mod d g q.columns gn) at (each (d * q.columns + g) (cell-within q.rows q.columns d g dm gn));
 }
 
 -- the ranges after one more place

@@ -11,14 +11,13 @@ use Rattle.std.proofs.lemmas.List.FromFn.{get_or-map-range_with_len, length-map-
 use Rattle.std.proofs.Math.Nat.{div-add-mod', mul-pos, mul-le-mul_right, le_antisymm, min-eq_right, min-le_left}
 use Rattle.zh_divisors.specs.Line.{half_up}
 use Rattle.zh_divisors.specs.Rounding.{Rounds}
-use Rattle.zh_divisors.proofs.CallerLemmas.{half_up-at_least, half_up-at_most, term-le-sum_to}
+use Rattle.zh_divisors.proofs.CallerLemmas.{column_of, half_up-at_least, half_up-at_most, place-div, place-mod, row_of, term-le-sum_to}
 use Rattle.zh_matrices.specs.Divisors.{Divisors}
 use Rattle.zh_lower.specs.Outcomes.{HasHalf, HasNone, IsFirstHalf, IsProper}
 use Rattle.zh_lower.specs.Places.{HasNoHalf, is_half_at, no_quotient, product_at, quotient_at, quotients, rounded, rounded_at}
 use Rattle.zh_matrices.specs.Question.{Question, cell}
 use Rattle.zh_matrices.specs.SeatMatrix.{IsStrict}
 use Rattle.zh_lower.specs.declared.quotient.Quotient.{Quotient}
-use Rattle.zh_matrices.proofs.CallerLemmas.{column_of, place-div, place-mod, row_of}
 
 -- if n / p rounds to s without a half, s is n / p rounded half up
 half_up-rounds : (n p s : ℕ) → 0 < p → Rounds n p s → half_up n p ≡ s

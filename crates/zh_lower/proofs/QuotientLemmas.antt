@@ -3,7 +3,7 @@ use Rattle.std.proofs.Common.{◌≡◌, ℕ, zero, suc, ◌+◌, ◌*◌, ◌/�
 use Rattle.std.proofs.lemmas.List.Elements.{All-from_get_or}
 use Rattle.std.proofs.Math.Nat.{mul_comm, mul-pos, mul-le-mul_left, mul-le-mul_right}
 use Rattle.zh_divisors.specs.Line.{half_up, half_up_total}
-use Rattle.zh_divisors.proofs.CallerLemmas.{half_up-at_most, sum_to-ext, sum_to-suc}
+use Rattle.zh_divisors.proofs.CallerLemmas.{column_of, half_up-at_most, place-div, place-mod, row_of, sum_to-ext, sum_to-suc}
 use Rattle.zh_matrices.specs.Divisors.{AreWithinLimits, Divisors, millionths}
 use Rattle.zh_lower.specs.Places.{no_quotient, product_at, quotient_at, quotients}
 use Rattle.zh_matrices.specs.Question.{IsSized, Question, cell, column_votes, row_votes}
@@ -11,7 +11,6 @@ use Rattle.zh_lower.specs.Quotients.{are_unsettled, kept_at, some_to}
 use Rattle.zh_lower.specs.States.{holds_half, is_half, is_unsettled}
 use Rattle.zh_lower.specs.declared.quotient.Quotient.{Quotient}
 use Rattle.zh_lower.proofs.LineLemmas.{each_vote}
-use Rattle.zh_matrices.proofs.CallerLemmas.{column_of, place-div, place-mod, row_of}
 use Rattle.zh_lower.proofs.PlaceLemmas.{length-quotients, quotient-is}
 
 pub some_to-suc : (n : ℕ) (f : ℕ → Bool) → some_to (n + 1) f ≡ (some_to n f || f n)

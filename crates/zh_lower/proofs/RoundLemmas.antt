@@ -1,7 +1,6 @@
 -- Rounds of rising rows and falling columns have only one result.
-use Rattle.std.proofs.Common.{◌≡◌, ℕ, zero, suc, ◌+◌, ◌<◌, ◌≤◌, List, length, get_or, set, inl, inr, refl, sym, ◌∙◌, arith, add-one}
-use Rattle.std.proofs.lemmas.Bool.{cases_eq}
-use Rattle.std.proofs.lemmas.List.{ext_get_or, get_or-set_other, get_or-set_same}
+use Rattle.std.proofs.Common.{◌≡◌, ℕ, zero, suc, ◌+◌, ◌<◌, ◌≤◌, List, length, get_or, set, refl, sym, ◌∙◌, arith, add-one}
+use Rattle.std.proofs.lemmas.List.{ext_get_or, get_or-set_other}
 use Rattle.std.proofs.Math.Nat.{le_antisymm}
 use Rattle.zh_matrices.specs.Divisors.{Divisors}
 use Rattle.zh_matrices.specs.Question.{Question}
@@ -99,32 +98,7 @@ pub only-columns : (q : Question) (top : ℕ) (seats : List ℕ) (n : ℕ) (x y 
 only-columns q top seats n x y one other long also =
     ext_get_or 0 y.of_columns x.of_columns (also ∙ sym long) (λ g lt. (same-end q top seats n y x other one).columns g (omega arith))
 
--- one line after another
+-- the lines that are not set yet
 pub others-set : (i value : ℕ) (before xs : List ℕ) → ((k : ℕ) → i ≤ k → get_or xs k 0 ≡ get_or before k 0) →
     (k : ℕ) → i + 1 ≤ k → get_or (set xs i value) k 0 ≡ get_or before k 0
 others-set i value before xs same k more = get_or-set_other xs i k value 0 (omega arith) ∙ same k (omega arith)
-
-pub still-set : (i value : ℕ) (before xs : List ℕ) → i < length xs → value ≡ get_or before i 0 →
-    ((k : ℕ) → k < i → get_or xs k 0 ≡ get_or before k 0) → (k : ℕ) → k < i + 1 → get_or (set xs i value) k 0 ≡ get_or before k 0
-still-set i value before xs there is same k less = elim (cases_eq k i) [
-  | inl at ↦ rw (at, get_or-set_same xs i value 0 there) is
-  | inr other ↦ get_or-set_other xs i k value 0 other ∙ same k (omega (arith, other))
-]
-
-pub least-set : (q : Question) (seats columns before rows : List ℕ) (i value : ℕ) → i < length rows →
-    ((d : ℕ) → d < i → IsLeastRow q seats columns d (get_or before d 0) (get_or rows d 0)) →
-    IsLeastRow q seats columns i (get_or before i 0) value →
-    (d : ℕ) → d < i + 1 → IsLeastRow q seats columns d (get_or before d 0) (get_or (set rows i value) d 0)
-least-set q seats columns before rows i value there done one d less = elim (cases_eq d i) [
-  | inl at ↦ rw (at, get_or-set_same rows i value 0 there) one
-  | inr other ↦ rw (get_or-set_other rows i d value 0 other) (done d (omega (arith, other)))
-]
-
-pub greatest-set : (q : Question) (seats rows before columns : List ℕ) (i value : ℕ) → i < length columns →
-    ((g : ℕ) → g < i → IsGreatestColumn q seats rows g (get_or before g 0) (get_or columns g 0)) →
-    IsGreatestColumn q seats rows i (get_or before i 0) value →
-    (g : ℕ) → g < i + 1 → IsGreatestColumn q seats rows g (get_or before g 0) (get_or (set columns i value) g 0)
-greatest-set q seats rows before columns i value there done one g less = elim (cases_eq g i) [
-  | inl at ↦ rw (at, get_or-set_same columns i value 0 there) one
-  | inr other ↦ rw (get_or-set_other columns i g value 0 other) (done g (omega (arith, other)))
-]

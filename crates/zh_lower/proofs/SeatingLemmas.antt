@@ -6,7 +6,7 @@ use Rattle.zh_matrices.specs.Divisors.{AreWithinLimits, Divisors, millionths}
 use Rattle.zh_lower.specs.Outcomes.{ComesToTie, IsProper, NoneBefore}
 use Rattle.zh_lower.specs.Reasons.{HandsOver, HasReason, fault_of}
 use Rattle.zh_lower.specs.SearchRooms.{divisors_of}
-use Rattle.zh_divisors.proofs.CallerLemmas.{term-le-sum_to}
+use Rattle.zh_divisors.proofs.CallerLemmas.{positive_term, term-le-sum_to}
 use Rattle.zh_matrices.specs.Question.{AreSeatTotals, IsFirstWithoutVotes, Question, cell, row_votes}
 use Rattle.zh_matrices.specs.SeatMatrix.{IsStrict, IsWeak, SeatMatrix}
 use Rattle.zh_lower.specs.Seating.{LowerOutcome, NoneFound}
@@ -19,7 +19,7 @@ use Rattle.zh_lower.specs.declared.lower.LowerFault.TheVariants as faults
 use Rattle.zh_lower.specs.declared.lower.NoLower.{NoLower}
 use Rattle.zh_lower.specs.declared.lower.NoLower.TheVariants.{Exhausted, NoVotes, Tied, Unbalanced}
 use Rattle.zh_lower.specs.declared.tie.Tie.{Tie}
-use Rattle.zh_matrices.proofs.CallerLemmas.{no_seats, only_seats, positive_place, weakened}
+use Rattle.zh_matrices.proofs.CallerLemmas.{no_seats, only_seats, weakened}
 use Rattle.zh_decided.specs.Decisions.{LeavesNone}
 use Rattle.zh_decided.specs.Rooms.{found}
 use Rattle.zh_decided.specs.Ways.{AreBalanced}
@@ -92,7 +92,7 @@ no_weak q d x seats totals first weak =
     let dm : d - 1 < q.rows = omega (arith, first.from_1, first.there) in
     let some : 1 ≤ slice_index q.row_totals (d - 1) = totals.from_1 (d - 1) 0 (omega (arith, totals.one_each)) in
     let sum = weak.rows_add_up (d - 1) dm in
-    let (g, gn, positive) = positive_place q.columns (cell q.columns seats (d - 1)) (omega (arith, sum, some)) in
+    let (g, gn, positive) = positive_term q.columns (cell q.columns seats (d - 1)) (omega (arith, sum, some)) in
     let term = term-le-sum_to q.columns (row_votes q (d - 1)) g gn in
     let votes : row_votes q (d - 1) g ≡ 0 = elim (cases_lt 0 (row_votes q (d - 1) g)) [
       | inl lt ↦ absurd (first.none (omega (arith, lt, term)))

@@ -1,5 +1,5 @@
 -- The middle of the divisors that give some seats.
-use Rattle.std.proofs.Common.{◌≡◌, ℕ, ◌/◌, ◌^◌, Bool, true, false, ◌↔◌, IsTrue, List, length, inl, inr, refl, sym, ap, ◌∙◌}
+use Rattle.std.proofs.Common.{◌≡◌, ℕ, ◌/◌, ◌^◌, Bool, true, false, ◌↔◌, IsTrue, List, length, inl, inr, sym, ap, ◌∙◌}
 use Rattle.std.proofs.lemmas.Bool.{false≢true}
 use Rattle.std.specs.Bool.{OnFalse, OnTrue}
 use Rattle.zh_matrices.specs.Divisors.{AreWithin, Divisors, millionths}
@@ -11,14 +11,6 @@ use Rattle.zh_matrices.specs.SeatMatrix.{IsStrict}
 use Rattle.zh_lower.proofs.ExtremeLemmas.{IsGreatest-of}
 use Rattle.zh_lower.proofs.RoundLemmas.{only-columns, only-rows}
 use Rattle.zh_matrices.proofs.CallerLemmas.{only_seats, weakened}
-
-pub on-true : (result : Bool) (claim : Type 0) → (result ≡ true → claim) → OnTrue result claim
-on-true true claim holds = holds refl
-on-true false claim holds = tt
-
-pub on-false : (result : Bool) (claim : Type 0) → (result ≡ false → claim) → OnFalse result claim
-on-false true claim holds = tt
-on-false false claim holds = holds refl
 
 pub follow-true : (result : Bool) (claim other : Type 0) → (claim → other) → OnTrue result claim → OnTrue result other
 follow-true true claim other step given = step given

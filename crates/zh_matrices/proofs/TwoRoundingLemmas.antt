@@ -1,10 +1,9 @@
 -- Two matrices with the same totals that follow from two sets of divisors by two kinds of rounding.
-use Rattle.std.proofs.Common.{◌≡◌, ℕ, ◌+◌, ◌*◌, ◌/◌, ◌%◌, ◌<◌, ◌≤◌, Bool, true, false, cond, leb, ltb, List, length, get_or, slice_index, sym, ap, ◌∙◌, inl, inr, arith}
+use Rattle.std.proofs.Common.{◌≡◌, ℕ, ◌+◌, ◌*◌, ◌<◌, ◌≤◌, Bool, true, false, cond, leb, ltb, List, slice_index, sym, ◌∙◌, inl, inr, arith}
 use Rattle.std.proofs.lemmas.Bool.{leb-true, leb-false, ltb-true, ltb-false, le-leb, le-ltb, cases_lt}
-use Rattle.std.proofs.lemmas.List.{ext_get_or}
-use Rattle.std.proofs.lemmas.Nat.{div_below}
-use Rattle.std.proofs.Math.Nat.{le_of_eq, le_of_lt, mul-pos, div-add-mod', mod-lt, mul-zero}
+use Rattle.std.proofs.Math.Nat.{le_of_eq, le_of_lt, mul-pos}
 use Rattle.zh_divisors.specs.Sums.{sum_to}
+use Rattle.zh_divisors.proofs.CallerLemmas.{same_table}
 use Rattle.zh_matrices.specs.Divisors.{Divisors}
 use Rattle.zh_matrices.specs.Question.{Question, cell}
 use Rattle.zh_matrices.specs.SeatMatrix.{Follows}
@@ -93,18 +92,7 @@ same_cell P Q apart q x y s t S W d g dm gn =
     (le_of_eq (W.rows_add_up d dm ∙ sym (S.rows_add_up d dm)))
     g gn)
 
--- lists of m rows that agree in each cell are equal
-pub same_from_cells : (m n : ℕ) (s t : List ℕ) → length s ≡ m * n → length t ≡ m * n →
-    ((d g : ℕ) → d < m → g < n → cell n t d g ≡ cell n s d g) → t ≡ s
-same_from_cells m n s t ls lt h =
-    ext_get_or 0 t s (lt ∙ sym ls) (λ i il.
-    let below : i < m * n = omega arith in
-    let wide : 0 < n = elim (cases_lt 0 n) [ inl p ↦ p | inr p ↦ let z : n ≡ 0 = omega arith in absurd (omega (arith, ap (λ w. m * w) z, mul-zero m)) ] in
-    let there : get_or t (i / n * n + i % n) 0 ≡ get_or s (i / n * n + i % n) 0
-    = h (i / n) (i % n) (div_below i n m wide below) (mod-lt i wide) in
-    rw (div-add-mod' i n) at there)
-
 -- under any other divisors the seats are the same
 pub same_seats : (P Q : ℕ → ℕ → ℕ → Type 0) → Separates P Q → (q : Question) (x y : Divisors) (s t : List ℕ) → Follows P q x s → Follows Q q y t → t ≡ s
 same_seats P Q apart q x y s t S W =
-    same_from_cells q.rows q.columns s t S.one_each W.one_each (same_cell P Q apart q x y s t S W)
+    same_table q.rows q.columns t s W.one_each S.one_each (same_cell P Q apart q x y s t S W)

@@ -14,7 +14,7 @@ use Rattle.zh_commands.specs.declared.replies.Reply.{Reply}
 use Rattle.zh_commands.specs.declared.replies.Reply.TheVariants.{Refused}
 use Rattle.zh_commands.specs.declared.replies.Refusal.{Refusal}
 use Rattle.zh_ledger.specs.Ledger.{Ledger}
-use Rattle.zh_ledger.specs.Submissions.{OnDisk, Log, nothing}
+use Rattle.zh_ledger.specs.Submissions.{OnDisk}
 use Rattle.zh_office.specs.DeskBatches.{Held, rows_of, with_batch}
 use Rattle.zh_returns.specs.Tally.{Tally}
 use Rattle.zh_office.specs.Answers.{MayAnswerTo, answer_to_commit, batch_after, batch_of, command_of, held_after}
@@ -22,19 +22,14 @@ use Rattle.zh_office.specs.declared.answer.Answer.{Answer}
 use Rattle.zh_office.specs.declared.answer.Answer.TheVariants as answers
 use Rattle.zh_office.specs.Requests.{Acts, MayAnswerWhere, ReportsOutcome}
 
--- a command is answered as it is submitted
-command_acts : (old : OnDisk Ledger) (command : Command) (May : Answer → Type 0) (answer : Answer) (new : OnDisk Ledger)
-    → ReportsOutcome old command answer new → (log : Log) × Acts old (Some command) May answer log new
-command_acts old command May answer new by = (by.submission.log, (by, refl))
-
 -- an answer to a request is an answer to the line with that request
 pub request_acts : (old new : OnDisk Ledger) (tally : Tally) (held : Held) (line : Line) (request : Request) (answer : Answer) → old.holder.store.broken ≡ false → line.request ≡ request
-    → ((log : Log) × Acts old (command_of line.desk (rows_of held line.desk) request) (MayAnswerTo tally held line.desk request) answer log new)
-    → (log : Log) × Acts old (command_of line.desk (rows_of held line.desk) line.request) (MayAnswerWhere old.holder.store.broken tally held line) answer log new
+    → Acts old (command_of line.desk (rows_of held line.desk) request) (MayAnswerTo tally held line.desk request) answer new
+    → Acts old (command_of line.desk (rows_of held line.desk) line.request) (MayAnswerWhere old.holder.store.broken tally held line) answer new
 request_acts old new tally held line request answer whole is acts =
     let command = command_of line.desk (rows_of held line.desk) line.request in
-    subst (λ (b : Bool). (log : Log) × Acts old command (MayAnswerWhere b tally held line) answer log new) (sym whole)
-    (subst (λ (request : Request). (log : Log) × Acts old (command_of line.desk (rows_of held line.desk) request) (MayAnswerTo tally held line.desk request) answer log new) (sym is) acts)
+    subst (λ (b : Bool). Acts old command (MayAnswerWhere b tally held line) answer new) (sym whole)
+    (subst (λ (request : Request). Acts old (command_of line.desk (rows_of held line.desk) request) (MayAnswerTo tally held line.desk request) answer new) (sym is) acts)
 
 refused_batch : (rows : Option (List Row)) (request : Request) (refusal : Refusal) → batch_after rows request (Refused refusal) ≡ rows
 refused_batch None (requests.Batch steps.Open) refusal = refl
@@ -66,17 +61,17 @@ query_held held line query (answers.Reply reply) is =
 
 -- a commit of a batch with rows is answered as its command is
 pub batch_acts : (old new : OnDisk Ledger) (desk : ℕ) (rows : Option (List Row)) (batch : List Row) (May : Answer → Type 0) (answer : Answer)
-    → Some batch ≡ rows → 0 < length batch → ReportsOutcome old (commands.Batch desk batch) answer new → (log : Log) × Acts old (batch_of desk rows) May answer log new
+    → Some batch ≡ rows → 0 < length batch → ReportsOutcome old (commands.Batch desk batch) answer new → Acts old (batch_of desk rows) May answer new
 batch_acts old new desk rows [] May answer is some by = absurd (omega (arith, some))
 batch_acts old new desk rows (row ∷ batch) May answer is some by =
-    subst (λ (rows : Option (List Row)). (log : Log) × Acts old (batch_of desk rows) May answer log new) is (command_acts old (commands.Batch desk (row ∷ batch)) May answer new by)
+    subst (λ (rows : Option (List Row)). Acts old (batch_of desk rows) May answer new) is by
 
 -- a commit of a batch without rows, or without a batch, is answered from memory
 pub quiet_commit : (old : OnDisk Ledger) (desk : ℕ) (rows : Option (List Row)) (batch : Option (List Row)) → batch ≡ rows → None ≡ batch_of desk batch
-    → (log : Log) × Acts old (batch_of desk rows) (λ answer. answer ≡ answers.Reply (answer_to_commit rows)) (answers.Reply (answer_to_commit batch)) log old
+    → Acts old (batch_of desk rows) (λ answer. answer ≡ answers.Reply (answer_to_commit rows)) (answers.Reply (answer_to_commit batch)) old
 quiet_commit old desk rows batch is none =
-    subst (λ (rows : Option (List Row)). (log : Log) × Acts old (batch_of desk rows) (λ answer. answer ≡ answers.Reply (answer_to_commit rows)) (answers.Reply (answer_to_commit batch)) log old) is
-    (subst (λ (given : Option Command). (log : Log) × Acts old given (λ answer. answer ≡ answers.Reply (answer_to_commit batch)) (answers.Reply (answer_to_commit batch)) log old) none (nothing, (refl, refl, refl)))
+    subst (λ (rows : Option (List Row)). Acts old (batch_of desk rows) (λ answer. answer ≡ answers.Reply (answer_to_commit rows)) (answers.Reply (answer_to_commit batch)) old) is
+    (subst (λ (given : Option Command). Acts old given (λ answer. answer ≡ answers.Reply (answer_to_commit batch)) (answers.Reply (answer_to_commit batch)) old) none (refl, refl))
 
 pub empty_is : (desk : ℕ) (batch : List Row) → length batch ≤ 0 → None ≡ batch_of desk (Some batch)
 empty_is desk [] none = refl

@@ -22,17 +22,17 @@ use Rattle.zh_csv.specs.declared.batch_reader.LoadFault.{LoadFault}
 use Rattle.zh_csv.specs.declared.batch_reader.LoadFault.TheVariants as faults
 use Rattle.zh_csv.proofs.CallerLemmas.{EndsInPart, all_of_front, is_loading, never_cut, too_long}
 use Rattle.zh_ledger.specs.Ledger.{Ledger, MayFollow, MayResultWhere, MayStoreWhere, is_spent}
-use Rattle.zh_ledger.specs.Submissions.{OnDisk, Log}
+use Rattle.zh_ledger.specs.Submissions.{OnDisk}
 use Rattle.zh_ledger.specs.declared.outcome.Outcome.{Outcome}
 use Rattle.zh_ledger.specs.declared.outcome.Outcome.TheVariants as outcomes
 use Rattle.zh_office.specs.Requests.{Acts, reply_to}
 use Rattle.zh_office.specs.declared.answer.Answer.TheVariants as answers
-use Rattle.zh_office.specs.Load.{LoadTurn, command_loaded, load_refusal, load_reply}
-use Rattle.zh_office.specs.Office.{Office}
-use Rattle.zh_office.specs.Runs.{its_ledger}
+use Rattle.zh_office.specs.Load.{command_loaded, load_refusal, load_reply}
+use Rattle.zh_office.specs.Office.{Office, its_ledger}
+use Rattle.zh_office.specs.Runs.{LoadTurn}
 use Rattle.zh_office.specs.Undisturbed.{is_disturbed, is_memory}
 use Rattle.zh_office.specs.Answered.{IsAnswered, IsByJudgement}
-use Rattle.zh_office.specs.Findings.{Finding, begun, findings, forecast_of, judgement, refuses}
+use Rattle.zh_office.specs.Findings.{Finding, begun, findings, forecast_of, refuses}
 use Rattle.zh_office.proofs.AnyLemmas.{all_refused, all_taken, answered_refused, answered_same, answered_stored, any_refused, any_stored}
 use Rattle.zh_office.proofs.FindingLemmas.{begun_push, next_finding}
 use Rattle.zh_office.proofs.RowLemmas.{names_missed, read_other}
@@ -96,20 +96,19 @@ module _ (found : List Finding) (ledger : Ledger) (command : Command) (reply : R
       taken_answered (list_any is_accept all) stored follows' (refused ∙ is)
 
 -- the effect of what was loaded, by whether the device had failed before
-abbrev ActsWhere : OnDisk Office → OnDisk Office → Reply → Log → Result (List Row) LoadFault → Bool → Type 0
-ActsWhere old new reply log loaded broken =
-    Acts (its_ledger old) (command_loaded broken loaded) (λ a. a ≡ answers.Reply (load_reply broken loaded)) (answers.Reply reply)
-    log (its_ledger new)
+abbrev ActsWhere : OnDisk Office → OnDisk Office → Reply → Result (List Row) LoadFault → Bool → Type 0
+ActsWhere old new reply loaded broken =
+    Acts (its_ledger old) (command_loaded broken loaded) (λ a. a ≡ answers.Reply (load_reply broken loaded)) (answers.Reply reply) (its_ledger new)
 
 -- the findings on these records
 abbrev found_in : OnDisk Office → List Record → List Finding
 found_in old records = findings old.holder.ledger.tally records
 
-module _ (old new : OnDisk Office) (text : List ℕ) (records : List Record) (reply : Reply) (log : Log) (all : AreAll text records)
+module _ (old new : OnDisk Office) (text : List ℕ) (records : List Record) (reply : Reply) (all : AreAll text records)
     (by_judgement : IsByJudgement reply) where
   -- an office that is not broken
   answered : (loaded : Result (List Row) LoadFault) → old.holder.ledger.store.broken ≡ false
-      → LoadsFrom old.holder.ledger.tally.canton (Some text) false loaded → ActsWhere old new reply log loaded false
+      → LoadsFrom old.holder.ledger.tally.canton (Some text) false loaded → ActsWhere old new reply loaded false
       → KeepsForecast (found_in old records) reply
   answered (Err fault) whole loads acts =
       let tally : Tally = old.holder.ledger.tally in
@@ -129,12 +128,12 @@ module _ (old new : OnDisk Office) (text : List ℕ) (records : List Record) (re
   answered (Ok (row ∷ rows)) whole loads acts =
       let tally : Tally = old.holder.ledger.tally in
       let command : Command = commands.Batch 0 (row ∷ rows) in
-      let outcome : Outcome = acts.0.outcome in
-      let follows = subst (λ (b : Bool). MayResultWhere b old.holder.ledger command outcome) whole acts.0.submission.results in
+      let outcome : Outcome = acts.outcome in
+      let follows = subst (λ (b : Bool). MayResultWhere b old.holder.ledger command outcome) whole acts.submission.results in
       let verdicts_on : List Verdict = map (judge_row tally) (row ∷ rows) in
       let refused = refused_are tally text records (row ∷ rows) all (loads.known text refl) in
       let stored = stored_are tally text records (row ∷ rows) all (loads.known text refl) in
-      batch_answered (findings tally records) old.holder.ledger command reply outcome by_judgement acts.0.reply verdicts_on
+      batch_answered (findings tally records) old.holder.ledger command reply outcome by_judgement acts.reply verdicts_on
       (list_any is_refusal verdicts_on) refl refused stored follows
 
 -- a record that is too long is refused
@@ -151,9 +150,9 @@ long_refused tally (first ∷ others) part long =
     ∙ ap (λ (b : Bool). any_refused (begun tally (first ∷ others)) || b) refused ∙ or-true (any_refused (begun tally (first ∷ others)))
 
 -- a text that is not read to its end
-module _ (old new : OnDisk Office) (text : List ℕ) (records : List Record) (reply : Reply) (log : Log) (cut : EndsInPart text records) where
+module _ (old new : OnDisk Office) (text : List ℕ) (records : List Record) (reply : Reply) (cut : EndsInPart text records) where
   cut_answered : (loaded : Result (List Row) LoadFault) → LoadsFrom old.holder.ledger.tally.canton (Some text) false loaded
-      → ActsWhere old new reply log loaded false → KeepsForecast (found_in old records) reply
+      → ActsWhere old new reply loaded false → KeepsForecast (found_in old records) reply
   cut_answered (Err fault) loads acts =
       let tally : Tally = old.holder.ledger.tally in
       let reply_is = same_reply reply (replies.Refused (load_refusal fault)) acts.0 in
@@ -168,8 +167,8 @@ module _ (old new : OnDisk Office) (text : List ℕ) (records : List Record) (re
 -- a loading of a text
 module _ (old new : OnDisk Office) (text : List ℕ) (records : List Record) (reply : Reply) (turn : LoadTurn old (Some text) false reply new)
     (by_judgement : IsByJudgement reply) where
-  acts_so : (broken : Bool) → old.holder.ledger.store.broken ≡ broken → ActsWhere old new reply turn.log turn.loaded broken
-  acts_so broken is = subst (ActsWhere old new reply turn.log turn.loaded) is turn.acts
+  acts_so : (broken : Bool) → old.holder.ledger.store.broken ≡ broken → ActsWhere old new reply turn.loaded broken
+  acts_so broken is = subst (ActsWhere old new reply turn.loaded) is turn.turn.acts
 
   -- the device had failed before, or it had not
   broken_or : (old.holder.ledger.store.broken ≡ false → KeepsForecast (found_in old records) reply) → (broken : Bool)
@@ -181,14 +180,14 @@ module _ (old new : OnDisk Office) (text : List ℕ) (records : List Record) (re
   forecast_kept : AreAll text records → KeepsForecast (found_in old records) reply
   forecast_kept all =
       let whole : old.holder.ledger.store.broken ≡ false → KeepsForecast (found_in old records) reply = λ is.
-      answered old new text records reply turn.log all by_judgement turn.loaded is (turn.loads is) (acts_so false is) in
+      answered old new text records reply all by_judgement turn.loaded is (turn.loads is) (acts_so false is) in
       broken_or whole old.holder.ledger.store.broken refl
 
   -- the text is not read to its end
   forecast_cut : EndsInPart text records → KeepsForecast (found_in old records) reply
   forecast_cut cut =
       let whole : old.holder.ledger.store.broken ≡ false → KeepsForecast (found_in old records) reply = λ is.
-      cut_answered old new text records reply turn.log cut turn.loaded (turn.loads is) (acts_so false is) in
+      cut_answered old new text records reply cut turn.loaded (turn.loads is) (acts_so false is) in
       broken_or whole old.holder.ledger.store.broken refl
 
   forecast_read : AreAll text records ⊎ EndsInPart text records → KeepsForecast (found_in old records) reply

@@ -6,7 +6,7 @@ use Rattle.zh_commands.specs.declared.replies.Reply.TheVariants.{Refused}
 use Rattle.zh_commands.specs.declared.replies.Refusal.TheVariants as refusals
 use Rattle.zh_disk.proofs.CallerLemmas.{no_call}
 use Rattle.zh_ledger.specs.Ledger.{Ledger, MayResultWhere}
-use Rattle.zh_ledger.specs.Submissions.{OnDisk, Submission, Log, nothing}
+use Rattle.zh_ledger.specs.Submissions.{OnDisk, Submission, nothing}
 use Rattle.zh_ledger.proofs.CallerLemmas.{outside_untouched}
 use Rattle.zh_ledger.specs.declared.outcome.Outcome.TheVariants as outcomes
 use Rattle.zh_office.specs.DeskBatches.{Held}
@@ -26,9 +26,8 @@ broken_submission old command broken = record {
 
 -- whatever a line asks for, the disk must be reopened
 pub broken_acts : (old : OnDisk Ledger) (command : Option Command) (tally : Tally) (held : Held) (line : Line) → old.holder.store.broken ≡ true
-    → (log : Log) × Acts old command (MayAnswerWhere old.holder.store.broken tally held line) (answers.Reply (Refused refusals.ReopenDisk)) log old
+    → Acts old command (MayAnswerWhere old.holder.store.broken tally held line) (answers.Reply (Refused refusals.ReopenDisk)) old
 broken_acts old None tally held line broken =
-    (nothing, (subst (λ (b : Bool). MayAnswerWhere b tally held line (answers.Reply (Refused refusals.ReopenDisk))) (sym broken) refl, refl, refl))
+    (subst (λ (b : Bool). MayAnswerWhere b tally held line (answers.Reply (Refused refusals.ReopenDisk))) (sym broken) refl, refl)
 broken_acts old (Some command) tally held line broken =
-    let by = broken_submission old command broken in
-    (by.log, (record { outcome = outcomes.Broken; submission = by; reply = refl }, refl))
+    record { outcome = outcomes.Broken; submission = broken_submission old command broken; reply = refl }

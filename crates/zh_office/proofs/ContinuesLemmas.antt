@@ -1,5 +1,5 @@
--- The effect of lines and texts on the history of a disk.
-use Rattle.std.proofs.Common.{◌≡◌, ◌<◌, ◌≤◌, ◌-◌, ◌^◌, ◌∙◌, ⊎_elim, inl, inr, ℕ, Bool, true, false, List, [], ◌∷◌, IsTrue, refl, sym, ap, subst, arith}
+-- The effect of a run on the history of a disk.
+use Rattle.std.proofs.Common.{◌≡◌, ◌<◌, ◌≤◌, ◌-◌, ◌^◌, ◌∙◌, ⊎_elim, inl, inr, ℕ, Bool, true, false, List, [], ◌∷◌, IsTrue, Result, refl, sym, ap, subst, arith}
 use Rattle.zh_disk.specs.History.{HasRisen}
 use Rattle.zh_returns.specs.declared.command.Command.{Command}
 use Rattle.zh_ledger.specs.Ledger.{Ledger, has_room, stored}
@@ -7,10 +7,12 @@ use Rattle.zh_ledger.specs.Submissions.{Log, OnDisk, Submission, Submits}
 use Rattle.zh_ledger.specs.declared.outcome.Outcome.{Outcome}
 use Rattle.zh_ledger.specs.declared.outcome.Outcome.TheVariants as outcomes
 use Rattle.zh_ledger.proofs.CallerLemmas.{ready_already, ready_switched}
-use Rattle.zh_office.specs.Office.{Office}
-use Rattle.zh_office.specs.Runs.{Continues, Runs, its_ledger}
-use Rattle.zh_office.specs.Served.{AnswersAll, BreaksOff, Session}
-use Rattle.zh_office.proofs.LoggedLemmas.{run_submitted, turn_submitted}
+use Rattle.zh_office.specs.Exchanges.{Exchange, log_of}
+use Rattle.zh_office.specs.Office.{Office, its_ledger}
+use Rattle.zh_office.specs.Runs.{Continues, Runs}
+use Rattle.zh_office.specs.Served.{Serves, Session}
+use Rattle.zh_office.specs.declared.service.ServeFault.{ServeFault}
+use Rattle.zh_office.proofs.LoggedLemmas.{run_submitted}
 
 -- a count that rose earlier has risen
 risen_before : (a b c : ℕ) → HasRisen a b → b ≤ c → HasRisen a c
@@ -68,30 +70,9 @@ submits_continue old [] log new (none, same) = none_continues old new same
 submits_continue old (x ∷ xs) log new (mid, others, by, log_is, run) =
     both_continue old mid new (submission_continues old x.0 x.1 mid by) (submits_continue mid xs others new run)
 
-run_continues : (old : OnDisk Office) (lines : List (List ℕ)) (out : List ℕ) (log : Log) (new : OnDisk Office) → Runs old lines out log new → Continues (its_ledger old) (its_ledger new)
-run_continues old lines out log new run =
-    let all = run_submitted old lines out log new run in submits_continue (its_ledger old) all.0 log (its_ledger new) all.1
+pub run_continues : (old : OnDisk Office) (xs : List Exchange) (new : OnDisk Office) → Runs old xs new → Continues (its_ledger old) (its_ledger new)
+run_continues old xs new run =
+    let all = run_submitted old xs new run in submits_continue (its_ledger old) all.0 (log_of xs) (its_ledger new) all.1
 
--- answered lines, and a line whose answer is incomplete
-pub answers_continue : (lines : List (List ℕ)) (old new : Session) → AnswersAll lines old new → Continues (its_ledger old.office) (its_ledger new.office)
-answers_continue lines old new all = run_continues old.office lines all.out all.log new.office all.run
-
-breaks_continue : (lines : List (List ℕ)) (old new : Session) → BreaksOff lines old new → Continues (its_ledger old.office) (its_ledger new.office)
-breaks_continue lines old new breaks =
-    let last = turn_submitted breaks.mid breaks.last breaks.answer new.office breaks.turn in
-    both_continue (its_ledger old.office) (its_ledger breaks.mid) (its_ledger new.office)
-    (run_continues old.office breaks.answered breaks.out breaks.log breaks.mid breaks.run)
-    (submits_continue (its_ledger breaks.mid) last.0 breaks.turn.log (its_ledger new.office) last.2)
-
--- further lines after the answered ones
-pub answers_on : (before lines : List (List ℕ)) (old mid seen new : Session) → seen.office ≡ mid.office → AnswersAll before old mid
-    → AnswersAll lines seen new → Continues (its_ledger old.office) (its_ledger new.office)
-answers_on before lines old mid seen new same first second =
-    both_continue (its_ledger old.office) (its_ledger mid.office) (its_ledger new.office) (answers_continue before old mid first)
-    (subst (λ (o : OnDisk Office). Continues (its_ledger o) (its_ledger new.office)) same (answers_continue lines seen new second))
-
-pub breaks_on : (before lines : List (List ℕ)) (old mid seen new : Session) → seen.office ≡ mid.office → AnswersAll before old mid
-    → BreaksOff lines seen new → Continues (its_ledger old.office) (its_ledger new.office)
-breaks_on before lines old mid seen new same first second =
-    both_continue (its_ledger old.office) (its_ledger mid.office) (its_ledger new.office) (answers_continue before old mid first)
-    (subst (λ (o : OnDisk Office). Continues (its_ledger o) (its_ledger new.office)) same (breaks_continue lines seen new second))
+pub serves_continues : (old new : Session) (result : Result ℕ ServeFault) → Serves old new result → Continues (its_ledger old.office) (its_ledger new.office)
+serves_continues old new result served = run_continues old.office served.exchanges new.office served.run

@@ -12,9 +12,8 @@ mod NightLemmas
 mod OtherDeskLemmas
 mod FilmLemmas
 mod FilmReadLemmas
-mod StepLemmas
 mod ReadCountLemmas
-mod RunLemmas
+mod ExchangeLemmas
 mod SheetLemmas
 mod SteadyLemmas
 mod TextLemmas

@@ -3,11 +3,11 @@ use Rattle.std.proofs.Common.{◌≡◌, ℕ, ◌+◌, ◌<◌, ◌≤◌, List,
 use Rattle.std.proofs.lemmas.List.{length-take}
 use Rattle.std.specs.Io.KnownBytes.{Consumes}
 use Rattle.zh_office.specs.Served.{TakesReads}
-use Rattle.zh_office.proofs.BlockLemmas.{Consumes-append, Consumes-none}
+use Rattle.std.proofs.KnownBytes.{Consumes-nil, Consumes-trans}
 
 -- before the first read
 pub TakesReads-start : (reader : Option (List ℕ)) → TakesReads reader reader 0
-TakesReads-start reader = record { bytes = []; taken = Consumes-none reader; least = omega arith; most = omega arith }
+TakesReads-start reader = record { bytes = []; taken = Consumes-nil reader; least = omega arith; most = omega arith }
 
 -- a read took a prefix of a block
 pub TakesReads-more : (first reader reader' : Option (List ℕ)) (block : List ℕ) (len reads : ℕ)
@@ -18,7 +18,7 @@ TakesReads-more first reader reader' block len reads t read some within short =
     let taken = length-take len block in
     record {
       bytes = t.bytes ++ take len block;
-      taken = Consumes-append first reader reader' t.bytes (take len block) t.taken read;
+      taken = Consumes-trans first reader reader' t.bytes (take len block) t.taken read;
       least = omega (arith, t.least, grown, taken);
       most = omega (arith, t.most, grown, taken);
     }
@@ -29,7 +29,7 @@ TakesReads-stops first reader reader' reads t read =
     let grown = length-append t.bytes [] in
     record {
       bytes = t.bytes ++ [];
-      taken = Consumes-append first reader reader' t.bytes [] t.taken read;
+      taken = Consumes-trans first reader reader' t.bytes [] t.taken read;
       least = omega (arith, t.least, grown);
       most = omega (arith, t.most, grown);
     }

@@ -13,7 +13,7 @@ use Rattle.zh_returns.specs.declared.judgement.Verdict.TheVariants as verdicts
 use Rattle.zh_disk.specs.History.{HasRisen}
 use Rattle.zh_ledger.specs.Ledger.{Ledger, Becomes, MayFollow, MayResultWhere, MayStoreWhere, has_room, is_one, is_spent, lacks_room, stored}
 use Rattle.zh_ledger.specs.Faults.{fails}
-use Rattle.zh_ledger.specs.Submissions.{OnDisk, Submission, Log}
+use Rattle.zh_ledger.specs.Submissions.{OnDisk, Submission}
 use Rattle.zh_ledger.specs.declared.outcome.Outcome.{Outcome}
 use Rattle.zh_ledger.specs.declared.outcome.Outcome.TheVariants as outcomes
 use Rattle.zh_ledger.proofs.CallerLemmas.{ready_already, ready_switched}
@@ -27,9 +27,6 @@ not_risen a b same below risen = ⊎_elim (λ (more : a < b). omega arith) (λ (
 -- three counts that do not fall, the last of which equals the first
 pub all_same : (a b c : ℕ) → a ≤ b → b ≤ c → c ≡ a → (b ≡ a) × (c ≡ b)
 all_same a b c low high same = (omega arith, omega arith)
-
-pub as_many : (a b : ℕ) → b ≡ a → a ≤ b
-as_many a b same = omega arith
 
 pub below : (a b n : ℕ) → a ≤ b → b < n → a < n
 below a b n low less = omega arith
@@ -137,14 +134,8 @@ becomes_steady old new c (outcomes.Stored accepted) calm after whole = subst (St
 becomes_steady old new c outcomes.Device calm after whole = absurd (cc calm)
 becomes_steady old new c outcome calm after whole = stays old new whole after
 
-pub acts_steady : (old : OnDisk Ledger) (command : Option Command) (May : Answer → Type 0) (answer : Answer) (log : Log) (new : OnDisk Ledger)
-    → Acts old command May answer log new → old.holder.store.broken ≡ false → (HasRisen old.history.failures new.history.failures → ⊥) → Steady old.holder new.holder
-acts_steady old None May answer log new acts whole calm = stays old.holder new.holder whole (ap (λ (o : OnDisk Ledger). o.holder) acts.2)
-acts_steady old (Some command) May answer log new (by, logs) whole calm =
+pub acts_steady : (old : OnDisk Ledger) (command : Option Command) (May : Answer → Type 0) (answer : Answer) (new : OnDisk Ledger)
+    → Acts old command May answer new → old.holder.store.broken ≡ false → (HasRisen old.history.failures new.history.failures → ⊥) → Steady old.holder new.holder
+acts_steady old None May answer new acts whole calm = stays old.holder new.holder whole (ap (λ (o : OnDisk Ledger). o.holder) acts.1)
+acts_steady old (Some command) May answer new by whole calm =
     becomes_steady old.holder new.holder command by.outcome (never_fails old command by.outcome new by.submission calm) by.submission.after whole
-
-pub acts_later : (old : OnDisk Ledger) (command : Option Command) (May : Answer → Type 0) (answer : Answer) (log : Log) (new : OnDisk Ledger)
-    → Acts old command May answer log new → old.history.failures ≤ new.history.failures
-acts_later old None May answer log new acts =
-    let same : new.history.failures ≡ old.history.failures = ap (λ (o : OnDisk Ledger). o.history.failures) acts.2 in omega arith
-acts_later old (Some command) May answer log new (by, logs) = by.submission.call.counts.later

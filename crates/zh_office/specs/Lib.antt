@@ -3,11 +3,12 @@ pub mod Answers
 pub mod Sheets
 pub mod Requests
 pub mod Text
+pub mod Load
+pub mod Exchanges
 pub mod Office
 pub mod Code
 pub mod Opened
 pub mod Runs
-pub mod Load
 pub mod Order
 pub mod Served
 pub mod Filmed

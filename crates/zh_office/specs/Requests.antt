@@ -8,7 +8,7 @@ use Rattle.zh_commands.specs.declared.replies.Reply.{Reply}
 use Rattle.zh_commands.specs.declared.replies.Reply.TheVariants.{Stored, Same, Refused}
 use Rattle.zh_commands.specs.declared.replies.Refusal.TheVariants as refusals
 use Rattle.zh_ledger.specs.Ledger.{Ledger}
-use Rattle.zh_ledger.specs.Submissions.{OnDisk, Submission, Log, nothing}
+use Rattle.zh_ledger.specs.Submissions.{OnDisk, Submission}
 use Rattle.zh_ledger.specs.declared.outcome.Outcome.{Outcome}
 use Rattle.zh_ledger.specs.declared.outcome.Outcome.TheVariants as outcomes
 use Rattle.zh_office.specs.Answers.{MayAnswerTo}
@@ -35,11 +35,11 @@ pub record ReportsOutcome (old : OnDisk Ledger) (command : Command) (answer : An
   pub submission : Submission old command outcome new
   pub reply : answer ≡ answers.Reply (reply_to outcome)
 
--- A possible answer, the log that it adds, and the ledger and the disk after it. Without a command nothing changes; a command is
--- submitted and its outcome reported.
-abbrev pub Acts : OnDisk Ledger → Option Command → (Answer → Type 0) → Answer → Log → OnDisk Ledger → Type 0
-Acts old None May answer log new = May answer × (log ≡ nothing) × (new ≡ old)
-Acts old (Some command) May answer log new = (by : ReportsOutcome old command answer new) × (log ≡ by.submission.log)
+-- A possible answer, and the ledger and the disk after it. Without a command nothing changes; a command is submitted and its outcome
+-- reported.
+abbrev pub Acts : OnDisk Ledger → Option Command → (Answer → Type 0) → Answer → OnDisk Ledger → Type 0
+Acts old None May answer new = May answer × (new ≡ old)
+Acts old (Some command) May answer new = ReportsOutcome old command answer new
 
 -- whether the disk may have changed; after every answer except `stored` and `device` it has not
 abbrev pub answer_may_write : Answer → Bool

@@ -1,26 +1,27 @@
--- The part of a reader's bytes that was served.
-use Rattle.std.specs.Prelude.{◌≡◌, ◌<◌, ◌≤◌, ◌⊎◌, ◌+◌, ◌-◌, ◌*◌, ◌^◌, ℕ, List, [], ◌∷◌, ◌++◌, take, min, length, IsTrue, Option, Some}
-use Rattle.std.specs.Prelude.{codes}
+-- What has been read, answered and written when serving ends, by how it ends.
+use Rattle.std.specs.Prelude.{◌≡◌, ◌<◌, ◌≤◌, ◌⊎◌, ◌+◌, ◌-◌, ◌*◌, ◌^◌, ℕ, List, [], ◌∷◌, ◌++◌, codes, map, min, length, IsTrue}
+use Rattle.std.specs.Prelude.{Option, Some, Result, Ok, Err}
 use Rattle.std.specs.Io.KnownBytes.{Appends, Consumes, IsAtEnd}
 use Rattle.zh_disk.specs.History.{History}
 use Rattle.zh_film.specs.Frames.{Frame, HasEnded, now_at, reads_in}
 use Rattle.zh_film.specs.declared.kind.FrameKind.TheVariants.{Failed}
-use Rattle.zh_ledger.specs.Submissions.{OnDisk, on_disk, Log, followed_by, IsLogged}
-use Rattle.zh_office.specs.declared.answer.Answer.{Answer}
+use Rattle.zh_ledger.specs.Submissions.{OnDisk, on_disk, IsLogged}
+use Rattle.zh_office.specs.Exchanges.{Exchange, IsCutShort, lines_given, log_of, texts}
 use Rattle.zh_office.specs.Text.{lines_of, ended_lines}
-use Rattle.zh_office.specs.Office.{Office}
-use Rattle.zh_office.specs.Order.{Step, IsInOrder}
-use Rattle.zh_office.specs.Runs.{Runs, Turn, its_ledger, text_after}
+use Rattle.zh_office.specs.Office.{Office, its_ledger}
+use Rattle.zh_office.specs.Order.{IsInOrder}
+use Rattle.zh_office.specs.Runs.{Runs}
 use Rattle.zh_office.specs.declared.service.ServeFault.{ServeFault}
 use Rattle.zh_office.specs.declared.service.ServeFault.TheVariants as faults
 
--- why serving ended before the end of the input, as reports spell it
+-- the fault that ended serving, as reports spell it
 abbrev pub serving_name : ServeFault → List ℕ
 serving_name faults.Read = codes "read"
 serving_name faults.Write = codes "write"
 serving_name faults.Turns = codes "turns"
 
--- an office on its disk, the output and the remaining input, if they are known, and the frames of the film, latest first
+-- an office on its disk, the output and the remaining input, if they are known, and the frames of the film, latest first; a frame shows
+-- the same at one time, but of the office and its disk only what was done to the disk
 pub record Session : Type 0 where
   pub written : Option (List ℕ)
   pub office : OnDisk Office
@@ -34,93 +35,40 @@ session written office history left film = record { written = written; office = 
 abbrev pub frame_at : Session → Frame
 frame_at s = now_at s.left s.written s.office.history.trail
 
--- the film's last note is of a failed read
+-- the latest frame of the film is of a failed read
 abbrev pub HasFailedRead : List Frame → Type 0
 HasFailedRead [] = ⊥
 HasFailedRead (f ∷ fs) = f.kind ≡ Failed
 
--- an answered line, as a step of a conversation
-abbrev pub step_of : List ℕ → Answer → OnDisk Office → Step
-step_of line answer new = record { line = Some line; text = text_after line answer new; disk = new.history.trail }
+-- Which lines of what was read are due, by the result. Without a fault all of them are: a read met the end of the input, and `count` is
+-- their number, capped at the greatest u64. After a fault those are due that ended in what was read. If the writer failed and nothing is
+-- left of the input, these can be all lines, with the last one, which has not ended.
+abbrev pub AreDue : Session → List ℕ → List (List ℕ) → Result ℕ ServeFault → Type 0
+AreDue new input lines (Ok count) =
+    IsAtEnd new.left × HasEnded new.film × (lines ≡ lines_of input) × (count ≡ min (length lines) (2 ^ 64 - 1))
+AreDue new input lines (Err faults.Write) = (lines ≡ ended_lines input) ⊎ (IsAtEnd new.left × (lines ≡ lines_of input))
+AreDue new input lines (Err fault) = lines ≡ ended_lines input
 
-abbrev pub steps_of : (old : OnDisk Office) (lines : List (List ℕ)) (out : List ℕ) (log : Log) (new : OnDisk Office)
-    → Runs old lines out log new → List Step
-steps_of old [] out log new run = []
-steps_of old (line ∷ lines) out log new run =
-    step_of line run.answer run.mid ∷ steps_of run.mid lines run.rest run.others new run.follows
+-- what is written, by the result: all answers, and no line is left over; or, if the writer failed, the answers up to a proper prefix of
+-- the last
+abbrev pub WritesAnswers : Session → Session → List Exchange → List (List ℕ) → Result ℕ ServeFault → Type 0
+WritesAnswers old new exchanges others (Err faults.Write) = IsCutShort old.written new.written exchanges
+WritesAnswers old new exchanges others result = (others ≡ []) × Appends old.written new.written (texts exchanges)
 
--- these lines are answered and their answers written
-pub record AnswersAll (lines : List (List ℕ)) (old new : Session) : Type 0 where
-  pub out : List ℕ
-  pub log : Log
-  pub written : Appends old.written new.written out
-  pub run : Runs old.office lines out log new.office
-
--- on an honest disk, this log is what was done
-abbrev pub KeepsLog : Session → Log → Session → Type 0
-KeepsLog old log new = IsTrue new.office.history.honest → IsLogged (its_ledger old.office) log (its_ledger new.office)
-
--- the steps of the answered lines, in order
-abbrev pub steps_in : (lines : List (List ℕ)) (old new : Session) → AnswersAll lines old new → List Step
-steps_in lines old new answers = steps_of old.office lines answers.out answers.log new.office answers.run
-
-abbrev pub IsFilmed : List Step → Session → Session → Type 0
-IsFilmed steps old new = IsInOrder steps (frame_at old) new.film (frame_at new)
-
--- the input was read to its end, where a read gave no byte, and all its lines are answered; `count` is their number, capped at the
--- greatest u64
-pub record ServesAll (old new : Session) (count : ℕ) : Type 0 where
+-- The due lines of what was read are answered in these exchanges, except for those that are left over.
+pub record Serves (old new : Session) (result : Result ℕ ServeFault) : Type 0 where
   pub input : List ℕ
   pub read : Consumes old.left new.left input
-  pub end : IsAtEnd new.left
-  pub met : HasEnded new.film
-  pub answers : AnswersAll (lines_of input) old new
-  pub counted : count ≡ min (length (lines_of input)) (2 ^ 64 - 1)
-  pub kept : KeepsLog old answers.log new
-  pub order : IsFilmed (steps_in (lines_of input) old new answers) old new
-
--- the lines that ended in what was read are answered, and the bytes after them are not
-pub record ServesEnded (old new : Session) : Type 0 where
-  pub input : List ℕ
-  pub read : Consumes old.left new.left input
-  pub answers : AnswersAll (ended_lines input) old new
-  pub kept : KeepsLog old answers.log new
-  pub order : IsFilmed (steps_in (ended_lines input) old new answers) old new
-
--- some lines of a text are answered, and a proper prefix of the answer to the next one is written
-pub record BreaksOff (lines : List (List ℕ)) (old new : Session) : Type 0 where
-  pub answered : List (List ℕ)
-  pub last : List ℕ
-  pub others : List (List ℕ)
-  pub lines_are : lines ≡ answered ++ last ∷ others
-  pub out : List ℕ
-  pub log : Log
-  pub mid : OnDisk Office
-  pub run : Runs old.office answered out log mid
-  pub answer : Answer
-  pub turn : Turn mid last answer new.office
-  pub front : ℕ
-  pub part : front < length (text_after last answer new.office)
-  pub written : Appends old.written new.written (out ++ take front (text_after last answer new.office))
-
--- the steps of a session that broke off; the last one is the line whose answer is incomplete
-abbrev pub steps_broken : (lines : List (List ℕ)) (old new : Session) → BreaksOff lines old new → List Step
-steps_broken lines old new breaks =
-    steps_of old.office breaks.answered breaks.out breaks.log breaks.mid breaks.run ++ step_of breaks.last breaks.answer new.office ∷ []
-
--- the lines that can be answered of what was read: those that ended in it and, at the end of the input, also the last one
-abbrev pub AreDue : Option (List ℕ) → List ℕ → List (List ℕ) → Type 0
-AreDue reader' input lines = (lines ≡ ended_lines input) ⊎ (IsAtEnd reader' × (lines ≡ lines_of input))
-
--- the writer failed: a prefix of the answers is written, and the line in progress has had its effect
-pub record ServesFront (old new : Session) : Type 0 where
-  pub input : List ℕ
   pub lines : List (List ℕ)
-  pub read : Consumes old.left new.left input
-  pub due : AreDue new.left input lines
-  pub breaks : BreaksOff lines old new
-  pub kept : KeepsLog old (followed_by breaks.log breaks.turn.log) new
-  pub order : IsFilmed (steps_broken lines old new breaks) old new
+  pub due : AreDue new input lines result
+  pub exchanges : List Exchange
+  pub others : List (List ℕ)
+  pub answered : map Some lines ≡ lines_given exchanges ++ map Some others
+  pub run : Runs old.office exchanges new.office
+  pub written : WritesAnswers old new exchanges others result
+  -- on an honest disk, the log of these exchanges is what was done
+  pub kept : IsTrue new.office.history.honest → IsLogged (its_ledger old.office) (log_of exchanges) (its_ledger new.office)
+  pub order : IsInOrder exchanges (frame_at old) new.film (frame_at new)
 
 -- the bytes that the reader lost can be the result of this many reads of 1 to 8,192 bytes each
 pub record TakesReads (reader reader' : Option (List ℕ)) (reads : ℕ) : Type 0 where
@@ -146,3 +94,9 @@ EndsWithinReads film reader reader' bound =
 abbrev pub MakesReadsUpTo : ReadsOf
 MakesReadsUpTo film reader reader' bound =
     (reads : ℕ) × (reads ≤ reads_in film) × (reads_in film ≤ reads + 1) × (reads_in film ≤ bound) × TakesReads reader reader' reads
+
+-- which of these holds, by the result
+abbrev pub IsReadWithin : Result ℕ ServeFault → ReadsOf
+IsReadWithin (Err faults.Write) = MakesReadsUpTo
+IsReadWithin (Err faults.Turns) = MakesAllReads
+IsReadWithin result = EndsWithinReads

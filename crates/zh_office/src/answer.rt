@@ -8,7 +8,7 @@ ghost use Rattle.zh_office.specs.Answers.{answer_to_commit, batch_of, batch_afte
 ghost use Rattle.zh_office.specs.declared.answer.Answer.TheVariants as answers;
 ghost use Rattle.zh_commands.specs.Lines.{IsRequest};
 ghost use Rattle.zh_office.specs.DeskBatches.{rows_of, with_batch};
-ghost use Rattle.zh_ledger.specs.Submissions.{Log, on_disk};
+ghost use Rattle.zh_ledger.specs.Submissions.{on_disk};
 ghost use Rattle.zh_office.specs.Requests.{Acts, MayAnswerWhere, ReportsOutcome, answer_may_write, reply_to};
 ghost use Rattle.zh_commands.specs.declared.lines.Request.TheVariants as requests;
 
@@ -25,7 +25,7 @@ use zh_sheet::Sheet;
 pub enum Answer<'s> {
     /// A reply of one line.
     Reply(Reply),
-    /// A sheet, and whether it is final. It is final once every municipality is closed.
+    /// A sheet, and whether it is final. Only the line `final` gives a final one, and only if every municipality is closed.
     Sheet(Sheet<'s>, bool),
 }
 
@@ -54,7 +54,7 @@ fn submit<D: Disk>(ledger: &mut Ledger<'_>, disk: &mut D, command: &Command<'_>)
 }
 
 /// Submits these rows, at least one, as a single command of this desk and reports its outcome. Desk 0 means that no desk
-/// sent the rows.
+/// sent the rows. `bytes` is room for the rows of any batch: at least 11,000 bytes.
 pub(crate) fn submit_rows<D: Disk>(
     ledger: &mut Ledger<'_>,
     disk: &mut D,
@@ -73,7 +73,8 @@ pub(crate) fn submit_rows<D: Disk>(
     submit(ledger, disk, &Command::Batch { desk, rows })
 }
 
-/// Submits a desk's batch as one command. The batch ends if it is stored or if the count already holds it.
+/// Submits a desk's batch as one command. The batch ends if it is stored, if the count already holds its rows, or if it
+/// has none.
 fn commit<D: Disk>(
     ledger: &mut Ledger<'_>,
     disk: &mut D,
@@ -82,8 +83,8 @@ fn commit<D: Disk>(
     bytes: &mut [u8],
 ) -> Reply
     requires room { rows_length ≤ length bytes.old }
-    ensures acts { (log : Log) × Acts (on_disk ledger.old (D.history disk.old)) (batch_of desk.number (rows_of desks.old desk))
-        (λ answer. answer ≡ answers.Reply (answer_to_commit (rows_of desks.old desk))) (answers.Reply result) log
+    ensures acts { Acts (on_disk ledger.old (D.history disk.old)) (batch_of desk.number (rows_of desks.old desk))
+        (λ answer. answer ≡ answers.Reply (answer_to_commit (rows_of desks.old desk))) (answers.Reply result)
         (on_disk ledger.new (D.history disk.new)) }
     ensures held { desks.new ≡ with_batch desks.old desk (batch_after (rows_of desks.old desk) requests.Commit result) }
     ensures untouched { answer_may_write (answers.Reply result) ≡ false → disk.new ≡ disk.old }
@@ -100,13 +101,16 @@ fn commit<D: Disk>(
 }
 
 impl<'s> Office<'s> {
-    /// Answers a desk's request: submits a command, and answers every other request from memory. After a fault of the
-    /// device every answer is `reopen-disk`.
+    /// Answers a desk's request: submits the command that it gives (for a commit the desk's batch, if that has a row), and
+    /// answers every other request from memory. Of the batches, only that of this desk can change.
+    ///
+    /// The disk is as it was unless the answer is `stored` or `device`. After `device` every later request is answered
+    /// `reopen-disk`.
     pub(crate) fn answer_to<D: Disk>(&mut self, disk: &mut D, line: Line) -> Answer<'s>
         requires { IsRequest line.request }
-        ensures acts { (log : Log) × Acts (on_disk self.old.ledger (D.history disk.old))
+        ensures acts { Acts (on_disk self.old.ledger (D.history disk.old))
             (command_of line.desk (rows_of self.old.held line.desk) line.request)
-            (MayAnswerWhere self.old.ledger.store.broken self.old.ledger.tally self.old.held line) result log
+            (MayAnswerWhere self.old.ledger.store.broken self.old.ledger.tally self.old.held line) result
             (on_disk self.new.ledger (D.history disk.new)) }
         ensures held { self.new.held ≡ held_after self.old.held line result }
         ensures untouched { answer_may_write result ≡ false → disk.new ≡ disk.old }

@@ -22,26 +22,26 @@ fn push_field(line: &mut Vec<u8>, field: &[u8]) -> Result<(), AllocError>
 }
 
 /// Appends the fields after the first, each after a comma.
-fn push_others(line: &mut Vec<u8>, record: &ByteRecord) -> Result<(), AllocError>
-    requires { 0 < length (fields_of record.now) }
-    ensures { OnOk result (line.new.items ≡ line.old.items ++ after_commas (drop 1 (fields_of record.now))) }
+fn push_others(line: &mut Vec<u8>, csv_record: &ByteRecord) -> Result<(), AllocError>
+    requires { 0 < length (fields_of csv_record.now) }
+    ensures { OnOk result (line.new.items ≡ line.old.items ++ after_commas (drop 1 (fields_of csv_record.now))) }
 {
-    for place in 1..record.len() {
+    for place in 1..csv_record.len() {
         line.push(b',')?;
-        push_field(line, field(record, place))?;
+        push_field(line, field(csv_record, place))?;
     }
     Ok(())
 }
 
 /// Appends the fields, separated by commas.
-fn push_fields(line: &mut Vec<u8>, record: &ByteRecord) -> Result<(), AllocError>
-    ensures { OnOk result (line.new.items ≡ line.old.items ++ joined (fields_of record.now)) }
+fn push_fields(line: &mut Vec<u8>, csv_record: &ByteRecord) -> Result<(), AllocError>
+    ensures { OnOk result (line.new.items ≡ line.old.items ++ joined (fields_of csv_record.now)) }
 {
-    if record.len() == 0 {
+    if csv_record.len() == 0 {
         return Ok(());
     }
-    push_field(line, field(record, 0))?;
-    push_others(line, record)
+    push_field(line, field(csv_record, 0))?;
+    push_others(line, csv_record)
 }
 
 /// Appends a space, the refusal and the end of the line.
@@ -53,17 +53,21 @@ fn push_refusal(line: &mut Vec<u8>, refusal: Refusal) -> Result<(), AllocError>
 }
 
 /// Whether a record consists of the column names, separated by semicolons.
-fn has_semicolons(record: &ByteRecord) -> bool
-    ensures { result ≡ has_semicolons (fields_of record.now) }
+fn has_semicolons(csv_record: &ByteRecord) -> bool
+    ensures { result ≡ has_semicolons (fields_of csv_record.now) }
 {
-    record.len() == 1 && field(record, 0) == b"municipality;list;number;votes".as_slice()
+    csv_record.len() == 1 && field(csv_record, 0) == b"municipality;list;number;votes".as_slice()
 }
 
 /// Appends how to convert the text, if this is its first record and semicolons separate its column names.
-fn push_conversion(line: &mut Vec<u8>, number: u32, record: &ByteRecord) -> Result<(), AllocError>
-    ensures { OnOk result (line.new.items ≡ line.old.items ++ conversion number (fields_of record.now)) }
+fn push_conversion(
+    line: &mut Vec<u8>,
+    number: u32,
+    csv_record: &ByteRecord,
+) -> Result<(), AllocError>
+    ensures { OnOk result (line.new.items ≡ line.old.items ++ conversion number (fields_of csv_record.now)) }
 {
-    if number != 1 || !has_semicolons(record) {
+    if number != 1 || !has_semicolons(csv_record) {
         return Ok(());
     }
     line.extend_from_slice(
@@ -75,18 +79,18 @@ fn push_conversion(line: &mut Vec<u8>, number: u32, record: &ByteRecord) -> Resu
 pub(crate) fn refused_line(
     alloc: Global,
     number: u32,
-    record: &ByteRecord,
+    csv_record: &ByteRecord,
     refusal: Refusal,
 ) -> Result<Vec<u8>, AllocError>
-    ensures { IfOk result (λ line. line.items ≡ refused_line number (fields_of record.now) refusal) }
+    ensures { IfOk result (λ line. line.items ≡ refused_line number (fields_of csv_record.now) refusal) }
 {
     let mut line = Vec::new(alloc);
     line.extend_from_slice(b"row ")?;
     push_number(&mut line, number)?;
     line.extend_from_slice(b": ")?;
-    push_fields(&mut line, record)?;
+    push_fields(&mut line, csv_record)?;
     push_refusal(&mut line, refusal)?;
-    push_conversion(&mut line, number, record)?;
+    push_conversion(&mut line, number, csv_record)?;
     Ok(line)
 }
 

@@ -60,12 +60,12 @@ fn judge_row(count: &Count<'_>, rows: &mut Batch, row: Row) -> Result<Judgement,
 fn judge_record(
     count: &Count<'_>,
     rows: &mut Batch,
-    record: &ByteRecord,
+    csv_record: &ByteRecord,
 ) -> Result<Judgement, AllocError>
-    ensures { IfOk result (λ judged. (judged ≡ judgement count.now rows.old (row_in (fields_of record.now)))
-        × (rows.new ≡ rows_after count.now.canton rows.old (row_in (fields_of record.now)))) }
+    ensures { IfOk result (λ judged. (judged ≡ judgement count.now rows.old (row_in (fields_of csv_record.now)))
+        × (rows.new ≡ rows_after count.now.canton rows.old (row_in (fields_of csv_record.now)))) }
 {
-    match row_of(record) {
+    match row_of(csv_record) {
         Ok(row) => judge_row(count, rows, row),
         Err(fault) => refused_for(fault),
     }
@@ -75,18 +75,18 @@ fn judge_record(
 fn write_finding<W: Write>(
     alloc: Global,
     number: u32,
-    record: &ByteRecord,
+    csv_record: &ByteRecord,
     judgement: Judgement,
     out: &mut W,
 ) -> Result<(), JudgementFault>
-    ensures all { OnOk result (Appends (W.contents out.old) (W.contents out.new) (line_by number (fields_of record.now) judgement)) }
+    ensures all { OnOk result (Appends (W.contents out.old) (W.contents out.new) (line_by number (fields_of csv_record.now) judgement)) }
     ensures front { IfErr result (λ fault.
-        BreaksOffLine fault (W.contents out.old) (W.contents out.new) (line_by number (fields_of record.now) judgement)) }
+        BreaksOffLine fault (W.contents out.old) (W.contents out.new) (line_by number (fields_of csv_record.now) judgement)) }
 {
     let Judgement::Refused(refusal) = judgement else {
         return Ok(());
     };
-    let line = refused_line(alloc, number, record, refusal)?;
+    let line = refused_line(alloc, number, csv_record, refusal)?;
     put(out, &line)?;
     Ok(())
 }
@@ -94,23 +94,23 @@ fn write_finding<W: Write>(
 /// Judges the first record, which must consist of the column names.
 fn judge_first<W: Write>(
     alloc: Global,
-    record: &ByteRecord,
+    csv_record: &ByteRecord,
     out: &mut W,
 ) -> Result<Forecast, JudgementFault>
-    ensures counts { IfOk result (λ counts. counts ≡ forecast_of (first_findings (fields_of record.now))) }
+    ensures counts { IfOk result (λ counts. counts ≡ forecast_of (first_findings (fields_of csv_record.now))) }
     ensures all { OnOk result
-        (Appends (W.contents out.old) (W.contents out.new) (finding_lines (first_findings (fields_of record.now)))) }
+        (Appends (W.contents out.old) (W.contents out.new) (finding_lines (first_findings (fields_of csv_record.now)))) }
     ensures front { IfErr result (λ fault.
-        BreaksOffLine fault (W.contents out.old) (W.contents out.new) (finding_lines (first_findings (fields_of record.now)))) }
+        BreaksOffLine fault (W.contents out.old) (W.contents out.new) (finding_lines (first_findings (fields_of csv_record.now)))) }
 {
-    if is_names(record) {
+    if is_names(csv_record) {
         return Ok(Forecast {
             records: 0,
             refused: 0,
             stores: false,
         });
     }
-    write_finding(alloc, 1, record, Judgement::Refused(Refusal::Csv), out)?;
+    write_finding(alloc, 1, csv_record, Judgement::Refused(Refusal::Csv), out)?;
     Ok(Forecast {
         records: 1,
         refused: 1,
@@ -122,17 +122,17 @@ impl Progress {
     /// Judges the first record.
     pub(crate) fn begin<W: Write>(
         alloc: Global,
-        record: &ByteRecord,
+        csv_record: &ByteRecord,
         out: &mut W,
     ) -> Result<Progress, JudgementFault>
-        ensures begun { IfOk result (λ progress. ((tally : Tally) → IsAfter tally (fields_of record.now ∷ []) progress)
+        ensures begun { IfOk result (λ progress. ((tally : Tally) → IsAfter tally (fields_of csv_record.now ∷ []) progress)
             × (progress.counts.refused ≤ progress.counts.records) × (progress.counts.records ≤ 1)) }
         ensures all { OnOk result
-            (Appends (W.contents out.old) (W.contents out.new) (finding_lines (first_findings (fields_of record.now)))) }
+            (Appends (W.contents out.old) (W.contents out.new) (finding_lines (first_findings (fields_of csv_record.now)))) }
         ensures front { IfErr result (λ fault.
-            BreaksOffLine fault (W.contents out.old) (W.contents out.new) (finding_lines (first_findings (fields_of record.now)))) }
+            BreaksOffLine fault (W.contents out.old) (W.contents out.new) (finding_lines (first_findings (fields_of csv_record.now)))) }
     {
-        let counts = judge_first(alloc, record, out)?;
+        let counts = judge_first(alloc, csv_record, out)?;
         Ok(Progress {
             rows: Batch::new(alloc),
             counts,
@@ -145,22 +145,22 @@ impl Progress {
         alloc: Global,
         count: &Count<'_>,
         number: u32,
-        record: &ByteRecord,
+        csv_record: &ByteRecord,
         out: &mut W,
     ) -> Result<(), JudgementFault>
         requires within { self.old.counts.refused ≤ self.old.counts.records }
         requires room { self.old.counts.records + 1 < 2 ^ 32 }
-        ensures rows { OnOk result (self.new.rows ≡ rows_after count.now.canton self.old.rows (row_in (fields_of record.now))) }
+        ensures rows { OnOk result (self.new.rows ≡ rows_after count.now.canton self.old.rows (row_in (fields_of csv_record.now))) }
         ensures counts { OnOk result (self.new.counts
-            ≡ forecast_with self.old.counts (judgement count.now self.old.rows (row_in (fields_of record.now)))) }
+            ≡ forecast_with self.old.counts (judgement count.now self.old.rows (row_in (fields_of csv_record.now)))) }
         ensures all { OnOk result (Appends (W.contents out.old) (W.contents out.new)
-            (line_by number (fields_of record.now) (judgement count.now self.old.rows (row_in (fields_of record.now))))) }
+            (line_by number (fields_of csv_record.now) (judgement count.now self.old.rows (row_in (fields_of csv_record.now))))) }
         ensures front { IfErr result (λ fault. BreaksOffLine fault (W.contents out.old) (W.contents out.new)
-            (line_by number (fields_of record.now) (judgement count.now self.old.rows (row_in (fields_of record.now))))) }
+            (line_by number (fields_of csv_record.now) (judgement count.now self.old.rows (row_in (fields_of csv_record.now))))) }
     {
-        let judgement = judge_record(count, &mut self.rows, record)?;
+        let judgement = judge_record(count, &mut self.rows, csv_record)?;
         self.counts.note(judgement);
-        write_finding(alloc, number, record, judgement, out)
+        write_finding(alloc, number, csv_record, judgement, out)
     }
 }
 
@@ -169,7 +169,7 @@ fn judge_others<R: Read, W: Write>(
     alloc: Global,
     count: &Count<'_>,
     reader: &mut Reader<R>,
-    record: &mut ByteRecord,
+    csv_record: &mut ByteRecord,
     progress: &mut Progress,
     out: &mut W,
 ) -> Result<(), JudgementFault>
@@ -182,10 +182,10 @@ fn judge_others<R: Read, W: Write>(
         (WritesUpTo (bytes_left fault) (W.contents out.old) (W.contents out.new)) (records_judged fault)) }
 {
     for number in 2..u32::MAX {
-        if !next_record(reader, record)? {
+        if !next_record(reader, csv_record)? {
             return Ok(());
         }
-        progress.take(alloc, count, number, record, out)?;
+        progress.take(alloc, count, number, csv_record, out)?;
     }
     Err(JudgementFault::Turns)
 }
@@ -205,7 +205,7 @@ fn write_forecast<W: Write>(
     Ok(forecast)
 }
 
-/// Judges a text without records.
+/// Judges a text without records, as if it had one without fields.
 fn judge_none<W: Write>(alloc: Global, out: &mut W) -> Result<Forecast, JudgementFault>
     ensures { (tally : Tally) → MatchResult result
         (λ forecast. Appends (W.contents out.old) (W.contents out.new) (judgement_text tally [])
@@ -221,14 +221,14 @@ fn judge_all<R: Read, W: Write>(
     alloc: Global,
     count: &Count<'_>,
     reader: &mut Reader<R>,
-    record: &mut ByteRecord,
+    csv_record: &mut ByteRecord,
     out: &mut W,
 ) -> Result<Forecast, JudgementFault>
-    ensures { Judges count.now (λ bytes. HasRead R.remaining (front_of bytes) (fields_of record.old ∷ []) reader.old)
+    ensures { Judges count.now (λ bytes. HasRead R.remaining (front_of bytes) (fields_of csv_record.old ∷ []) reader.old)
         (W.contents out.old) (W.contents out.new) result }
 {
-    let mut progress = Progress::begin(alloc, record, out)?;
-    judge_others(alloc, count, reader, record, &mut progress, out)?;
+    let mut progress = Progress::begin(alloc, csv_record, out)?;
+    judge_others(alloc, count, reader, csv_record, &mut progress, out)?;
     write_forecast(alloc, progress.counts, out)
 }
 
@@ -242,15 +242,16 @@ fn judge_records<R: Read + Drop, W: Write>(
     ensures { Judges count.now (λ bytes. R.remaining text ≡ Some bytes) (W.contents out.old) (W.contents out.new) result }
 {
     let mut reader = reader_of(alloc, text);
-    let mut record = ByteRecord::new(alloc);
-    if !next_record(&mut reader, &mut record)? {
+    let mut csv_record = ByteRecord::new(alloc);
+    if !next_record(&mut reader, &mut csv_record)? {
         return judge_none(alloc, out);
     }
-    judge_all(alloc, count, &mut reader, &mut record, out)
+    judge_all(alloc, count, &mut reader, &mut csv_record, out)
 }
 
-/// Judges the records of a text against this count as a loading would. Writes a line for each record that would be refused,
-/// and then the forecast. It holds one record at a time, and at most 1,000 rows that no later record may repeat.
+/// Judges each record of a text against this count as `load` would. Writes a line for each record that would be refused,
+/// and then the forecast. It keeps one record at a time in memory, and up to 1,000 rows. A later record with the
+/// municipality and the list of one of these rows is refused.
 pub fn write_judgement<R: Read, W: Write>(
     alloc: Global,
     count: &Count<'_>,
@@ -262,7 +263,7 @@ pub fn write_judgement<R: Read, W: Write>(
     ensures read { IsErrOf result JudgementFault.Read → has_failed text.new ≡ true }
 {
     match judge_records(alloc, count, &mut *text, out) {
-        // A failed read is noted. This one is not, so the error was refused memory.
+        // The contract of `csv` does not say that a read failed. If none did, the error is reported as refused memory.
         Err(JudgementFault::Read) if !text.has_failed() => Err(JudgementFault::Memory),
         judged => judged,
     }

@@ -1,15 +1,13 @@
 //! Laws about an office on a disk, and about forecasts.
 
-ghost use Rattle.std.specs.Prelude.{◌≡◌, ℕ, List, Option, Bool, false, IsTrue, ◌<◌, ◌+◌, ◌⊎◌, [], Some, get_or, length, slice_get, take};
-ghost use Rattle.zh_office.specs.declared.answer.Answer.{Answer};
-ghost use Rattle.zh_office.specs.declared.answer.Answer.TheVariants as answers;
+ghost use Rattle.std.specs.Prelude.{◌≡◌, ℕ, List, false, IsTrue, ◌<◌, ◌+◌, ◌⊎◌, [], Some, get_or, length, slice_get, take};
 ghost use Rattle.zh_commands.specs.declared.replies.Reply.{Reply};
-ghost use Rattle.zh_ledger.specs.Submissions.{OnDisk, Log, IsLogged};
-ghost use Rattle.zh_office.specs.Load.{LoadTurn};
+ghost use Rattle.zh_ledger.specs.Submissions.{OnDisk, IsLogged};
+ghost use Rattle.zh_office.specs.Exchanges.{Exchange, log_of};
 ghost use Rattle.zh_office.specs.Night.{OfficeLaw};
-ghost use Rattle.zh_office.specs.Office.{Office};
-ghost use Rattle.zh_office.specs.Runs.{Runs, Turn, its_ledger};
-ghost use Rattle.zh_office.specs.Undisturbed.{is_disturbed, AreUndisturbed, IsUndisturbed, MeetsNoFault};
+ghost use Rattle.zh_office.specs.Office.{Office, its_ledger};
+ghost use Rattle.zh_office.specs.Runs.{LoadTurn, Runs, Turn};
+ghost use Rattle.zh_office.specs.Undisturbed.{AreUndisturbed, IsUndisturbed, MeetsNoFault};
 ghost use Rattle.zh_csv.specs.Front.{front_of};
 ghost use Rattle.zh_csv.specs.Records.{Record, AreAll};
 ghost use Rattle.zh_districts.specs.Canton.{Canton};
@@ -18,10 +16,10 @@ ghost use Rattle.zh_office.specs.Answered.{IsAnswered, IsByJudgement};
 ghost use Rattle.zh_office.specs.Findings.{finding_on, findings, findings_on, forecast_of, rows_after, rows_kept};
 ghost use Rattle.zh_office.specs.Rows.{row_in};
 
-/// What a run of lines does to an office and its honest disk, at each moment and at the end.
+/// What lines and loaded texts, one after another, do to an office and its honest disk, at each moment and at the end.
 pub fn stretches()
-    ensures { (old : OnDisk Office) (lines : List (List ℕ)) (out : List ℕ) (log : Log) (new : OnDisk Office)
-        → IsTrue new.history.honest → Runs old lines out log new → IsLogged (its_ledger old) log (its_ledger new) }
+    ensures { (old : OnDisk Office) (xs : List Exchange) (new : OnDisk Office) → IsTrue new.history.honest → Runs old xs new
+        → IsLogged (its_ledger old) (log_of xs) (its_ledger new) }
 {}
 
 /// A night event by event: lines, loaded texts, stops and openings on an honest disk that was formatted for the office.
@@ -40,14 +38,10 @@ pub fn law_nights()
 ///
 /// This holds on every disk, honest or not.
 pub fn undisturbed()
-    ensures line { (old : OnDisk Office) (bytes : List ℕ) (answer : Answer) (new : OnDisk Office) (turn : Turn old bytes answer new)
-        → MeetsNoFault old new → IsUndisturbed turn.reading answer × (new.holder.ledger.store.broken ≡ false) }
-    ensures lines { (old : OnDisk Office) (lines : List (List ℕ)) (out : List ℕ) (log : Log) (new : OnDisk Office)
-        (run : Runs old lines out log new) → MeetsNoFault old new
-        → AreUndisturbed old lines out log new run × (new.holder.ledger.store.broken ≡ false) }
-    ensures load { (old : OnDisk Office) (text : Option (List ℕ)) (failed : Bool) (reply : Reply) (new : OnDisk Office)
-        → LoadTurn old text failed reply new → MeetsNoFault old new
-        → (is_disturbed (answers.Reply reply) ≡ false) × (new.holder.ledger.store.broken ≡ false) }
+    ensures turn { (old : OnDisk Office) (x : Exchange) (new : OnDisk Office) → Turn old x new → MeetsNoFault old new
+        → IsUndisturbed x.given x.answer × (new.holder.ledger.store.broken ≡ false) }
+    ensures run { (old : OnDisk Office) (xs : List Exchange) (new : OnDisk Office) → Runs old xs new → MeetsNoFault old new
+        → AreUndisturbed xs × (new.holder.ledger.store.broken ≡ false) }
 {}
 
 /// A loading of a text with these records is answered as the forecast says: stored, the same, or refused. This excludes a

@@ -4,9 +4,9 @@ ghost use Rattle.std.specs.Prelude.{◌≡◌, false, true, ℕ, Bool, List, Opt
 ghost use Rattle.zh_csv.specs.Load.{LoadsFrom};
 ghost use Rattle.zh_csv.specs.Noted.{has_failed, inner_reader};
 ghost use Rattle.zh_ledger.specs.Submissions.{on_disk};
-ghost use Rattle.zh_office.specs.Load.{LoadTurn, load_refusal};
+ghost use Rattle.zh_office.specs.Load.{load_refusal};
 ghost use Rattle.zh_office.specs.Requests.{answer_may_write};
-ghost use Rattle.zh_office.specs.Runs.{Continues};
+ghost use Rattle.zh_office.specs.Runs.{Continues, LoadTurn};
 ghost use Rattle.zh_office.specs.declared.answer.Answer.TheVariants as answers;
 
 use crate::answer::submit_rows;
@@ -40,7 +40,7 @@ impl<'s> Office<'s> {
     /// The text is read record by record, only up to the record that decides, apart from what the crate `csv` reads ahead.
     /// After a fault of the device nothing is read.
     pub fn load<R: Read, D: Disk>(&mut self, disk: &mut D, reader: &mut NotedReader<R>) -> Reply
-        // While the disk is honest, the turn also says what each image holds at each moment since the call began.
+        // If the disk is honest, the turn also says what a stop can leave on it, at each moment since the call began.
         ensures turn { LoadTurn (on_disk self.old (D.history disk.old))
             (R.remaining (inner_reader reader.old)) (has_failed reader.new) result
             (on_disk self.new (D.history disk.new)) }

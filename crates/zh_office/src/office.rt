@@ -11,7 +11,7 @@ ghost use Rattle.zh_ledger.specs.Opening.{MakesNew, Opening};
 ghost use Rattle.zh_ledger.specs.Submissions.{on_disk};
 ghost use Rattle.zh_office.specs.Opened.{ledger_of_opened};
 ghost use Rattle.zh_office.specs.Requests.{answer_may_write};
-ghost use Rattle.zh_office.specs.Runs.{Turn};
+ghost use Rattle.zh_office.specs.Runs.{LineTurn};
 ghost use Rattle.zh_snapshot.specs.Faults.{store_format_fails};
 ghost use Rattle.zh_totals.specs.Counting.{totals_of};
 
@@ -29,18 +29,19 @@ use zh_record_text::RecordFault;
 use zh_returns::Count;
 use zh_totals::Totals;
 
-/// The bytes of the rows of a batch: 1,000 rows of 11 bytes.
+/// The most bytes of the rows of a batch: 1,000 rows of 11 bytes.
 const ROWS_LENGTH: usize = 11_000;
 
-/// The count of an election on a disk, and the desks that change it.
+/// The count of an election on a disk, and the batches of the desks that change it.
 ///
-/// Each call takes the disk, which must be the one that the office was opened on. After a fault of the device the office
-/// answers `reopen-disk`, until a new office is opened on the disk.
+/// The disk is lent to each call that may use it, and must be the one that the office was opened on. After a fault of the
+/// device the office answers `reopen-disk` to each line that it can read and to each loading, until a new office is opened on
+/// the disk.
 #[derive(Drop)]
 pub struct Office<'s> {
-    // the count; each call takes its disk
+    // the count, without its disk
     pub(crate) ledger: Ledger<'s>,
-    // the desks with their batches
+    // the batches of the desks
     pub(crate) desks: Desks,
     // where rows and sheets are allocated
     pub(crate) alloc: Global,
@@ -72,7 +73,8 @@ fn row_bytes(alloc: Global) -> Result<Vec<u8>, AllocError>
 }
 
 impl<'s> Office<'s> {
-    /// Formats a disk, whatever it contains, so that nothing has been returned on it, as `Ledger::format` does.
+    /// Formats a disk, whatever it contains, as `Ledger::format` does. On success an honest disk holds the empty count of this
+    /// set-up. If memory is refused, the disk is not called.
     pub fn format<D: Disk>(alloc: Global, setup: &Setup, disk: &mut D) -> Result<(), FormatFault>
         ensures call { Call store_format_fails (MakesNew setup.now) (D.history disk.old) (D.history disk.new) result }
         ensures untouched { IsErrOf result FormatFault.Memory → disk.new ≡ disk.old }
@@ -80,13 +82,14 @@ impl<'s> Office<'s> {
         Ledger::format(alloc, setup, disk)
     }
 
-    /// Opens the office on a disk, as `Ledger::open` does. All memory is allocated before the first call of the device.
+    /// Opens the office on a disk, as `Ledger::open` does. No desk has a batch. All memory that the opening needs is allocated
+    /// before the first call of the disk.
     pub fn open<D: Disk>(
         alloc: Global,
         setup: &'s Setup,
         disk: &mut D,
     ) -> Result<Office<'s>, OpenFault>
-        // While the disk is honest, this also says what each image is at each moment since the call began.
+        // If the disk is honest, this also says what a stop can leave on it, at each moment since the call began.
         ensures opening { Opening setup.now (D.history disk.old) (D.history disk.new) (ledger_of_opened result) }
 
         // No desk has a batch yet.
@@ -125,13 +128,13 @@ impl<'s> Office<'s> {
         self.ledger.is_broken()
     }
 
-    /// Answers a line, given without its LF. Only the lines `row`, `sheet` and `final` can take memory.
+    /// Answers a line, given without its LF. Only the lines `row`, `sheet` and `final` can be answered `memory`.
     ///
     /// An accepted command is on the disk before it is answered `stored`. After `device` the disk may or may not hold it,
     /// and the count is without it.
     pub fn line<D: Disk>(&mut self, disk: &mut D, bytes: &[u8]) -> Answer<'s>
-        // While the disk is honest, the turn also says what each image holds at each moment since the call began.
-        ensures turn { Turn (on_disk self.old (D.history disk.old)) bytes.now result (on_disk self.new (D.history disk.new)) }
+        // If the disk is honest, the turn also says what a stop can leave on it, at each moment since the call began.
+        ensures turn { LineTurn (on_disk self.old (D.history disk.old)) bytes.now result (on_disk self.new (D.history disk.new)) }
 
         ensures others { (desk : Desk) → desk.number ≢ desk_of bytes.now → rows_of self.new.held desk ≡ rows_of self.old.held desk }
         ensures untouched { answer_may_write result ≡ false → disk.new ≡ disk.old }
@@ -143,7 +146,8 @@ impl<'s> Office<'s> {
         }
     }
 
-    /// Writes the returns as comma-separated text, ordered by municipality and then by list, and returns the writer.
+    /// Writes what is held as comma-separated text, withdrawn lists included, and returns the writer. After the names of the
+    /// columns the records are ordered by municipality and then by list.
     pub fn export<W: Write + Drop>(&self, writer: W) -> Result<W, RecordFault>
         ensures { IfOk result (λ after. Appends (W.contents writer) (W.contents after) (export_text self.now.ledger.tally)) }
     {

@@ -130,7 +130,7 @@ fn answer_to_show(count: &Count<'_>, municipality: u32, list: u32) -> Reply
     }
 }
 
-/// The desk that set what is held of a list in a municipality.
+/// The answer to `last`: the desk that set what the count holds for a list in a municipality.
 fn answer_to_last(count: &Count<'_>, municipality: u32, list: u32) -> Reply
     ensures { result ≡ answer_to_last count.now municipality list }
 {

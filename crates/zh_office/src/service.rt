@@ -1,14 +1,14 @@
 //! Serving the lines of a reader.
 
-ghost use Rattle.std.specs.Prelude.{◌≡◌, ◌≤◌, ◌++◌, ◌↔◌, [], length, MatchResult, IfOk, IsErrOf, OnOk};
+ghost use Rattle.std.specs.Prelude.{◌≡◌, ◌≤◌, ◌++◌, ◌↔◌, [], ◌∷◌, length, MatchResult, IsErrOf};
 ghost use Rattle.zh_office.specs.Text.{HasNoEnd, ended_lines, last_line};
 ghost use Rattle.zh_film.specs.Frames.{frames};
 ghost use Rattle.zh_film.specs.Scenes.{scenes};
 ghost use Rattle.zh_ledger.specs.Submissions.{on_disk};
-ghost use Rattle.zh_office.specs.Filmed.{FilmsAll, FilmsFront, TakesBlock, WritesAnswer, WritesText};
-ghost use Rattle.zh_office.specs.Runs.{Continues, answer_text};
-ghost use Rattle.zh_office.specs.Served.{session, HasFailedRead, EndsWithinReads, MakesAllReads, MakesReadsUpTo, ServesAll, ServesEnded};
-ghost use Rattle.zh_office.specs.Served.{ServesFront, serving_name};
+ghost use Rattle.zh_office.specs.Exchanges.{answer_text};
+ghost use Rattle.zh_office.specs.Filmed.{FilmsAll, FilmsFront, TakesBlock, WritesText};
+ghost use Rattle.zh_office.specs.Runs.{Continues};
+ghost use Rattle.zh_office.specs.Served.{session, HasFailedRead, IsReadWithin, Serves, serving_name};
 ghost use Rattle.zh_office.specs.declared.service.ServeFault.TheVariants as faults;
 
 use crate::answer::Answer;
@@ -25,7 +25,7 @@ use zh_text::{WriteFault, put};
 /// The most bytes that a read asks for.
 const BLOCK: usize = 8192;
 
-/// Why serving ended before the end of the input.
+/// The fault that ended serving.
 #[derive(Clone, Copy, Debug, PartialEq, Eq, Error)]
 #[error("{}", self.name())]
 pub enum ServeFault {
@@ -33,7 +33,7 @@ pub enum ServeFault {
     Read,
     /// The writer failed or took no byte.
     Write,
-    /// All allowed reads were made before the input ended.
+    /// All allowed reads were made, and none of them met the end of the input.
     Turns,
 }
 
@@ -82,7 +82,8 @@ impl<'s> Office<'s> {
         }
     }
 
-    /// Answers a line, then writes the answer under the number of the desk that asked.
+    /// Answers a line, then writes the answer under the number of the desk that asked, or 0 if the line does not begin with
+    /// that of a desk.
     fn answer<R: Read, W: Write, D: Disk>(
         &mut self,
         bytes: &[u8],
@@ -91,12 +92,17 @@ impl<'s> Office<'s> {
         disk: &mut D,
         film: &mut Film<R, W, D>,
     ) -> Result<(), WriteFault>
-        ensures { WritesAnswer
+        ensures { MatchResult result
+            (λ _. FilmsAll (bytes.now ∷ [])
             (session (W.contents writer.old) self.old (D.history disk.old)
             (R.remaining reader.now) (frames R.Read W.Write D.Disk film.old))
-            bytes.now result
             (session (W.contents writer.new) self.new (D.history disk.new)
-            (R.remaining reader.now) (frames R.Read W.Write D.Disk film.new)) }
+            (R.remaining reader.now) (frames R.Read W.Write D.Disk film.new)))
+            (λ _. FilmsFront (bytes.now ∷ [])
+            (session (W.contents writer.old) self.old (D.history disk.old)
+            (R.remaining reader.now) (frames R.Read W.Write D.Disk film.old))
+            (session (W.contents writer.new) self.new (D.history disk.new)
+            (R.remaining reader.now) (frames R.Read W.Write D.Disk film.new))) }
     {
         let desk = desk_of(bytes);
         let answer = self.line(disk, bytes);
@@ -106,8 +112,8 @@ impl<'s> Office<'s> {
         Ok(())
     }
 
-    /// Answers the lines that end in a block, the first of which begins with `line`, and keeps the bytes of the line after
-    /// them.
+    /// Answers the lines that end in a block; the first of them begins with the bytes in `line`. Then `line` contains the
+    /// bytes of the line that has not ended, at most its first 121. Returns how many lines it answered.
     fn take_block<R: Read, W: Write, D: Disk>(
         &mut self,
         line: &mut PartialLine,
@@ -145,7 +151,7 @@ impl<'s> Office<'s> {
         Ok(count)
     }
 
-    /// Answers the last line, which has not ended, if it has a byte. Returns how many lines that is.
+    /// Answers the last line, which has not ended, if it has a byte. Returns how many lines it answered, 0 or 1.
     fn finish<R: Read, W: Write, D: Disk>(
         &mut self,
         line: &PartialLine,
@@ -174,11 +180,12 @@ impl<'s> Office<'s> {
     }
 
     /// Answers the lines of a reader until its end, in at most `turns` reads of up to 8,192 bytes. Returns the number of
-    /// lines.
+    /// lines, or 2^64 - 1 if there are more.
     ///
-    /// If the reader fails, or the reads are used up before the end of the input, the lines that had ended by then are
-    /// answered, and a line that had not ended is not. If the writer fails, a prefix of the answers is written. An
-    /// interrupted read or write is an error.
+    /// If the reader fails, or the reads are used up before one meets the end of the input, the lines that had ended by
+    /// then are answered, and a line that had not ended is not. If the writer fails, a proper prefix of the answers is
+    /// written; the line whose answer is cut short has been carried out, and no line after it. An interrupted read or write
+    /// counts as a failure.
     ///
     /// The film, which must be empty, notes the order of these events: the disk has carried out a line before its answer is
     /// written, and a line is answered before the next one is carried out and before more is read.
@@ -191,40 +198,19 @@ impl<'s> Office<'s> {
         turns: u64,
     ) -> Result<u64, ServeFault>
         requires { scenes film.old ≡ [] }
-        ensures ok { IfOk result (ServesAll
-            (session (W.contents writer.old) self.old (D.history disk.old)
-            (R.remaining reader.old) (frames R.Read W.Write D.Disk film.old))
+        ensures serves { Serves
+            (session (W.contents writer.old) self.old (D.history disk.old) (R.remaining reader.old) [])
             (session (W.contents writer.new) self.new (D.history disk.new)
-            (R.remaining reader.new) (frames R.Read W.Write D.Disk film.new))) }
-        ensures read { IsErrOf result ServeFault.Read → ServesEnded
-            (session (W.contents writer.old) self.old (D.history disk.old)
-            (R.remaining reader.old) (frames R.Read W.Write D.Disk film.old))
-            (session (W.contents writer.new) self.new (D.history disk.new)
-            (R.remaining reader.new) (frames R.Read W.Write D.Disk film.new)) }
-        ensures write { IsErrOf result ServeFault.Write → ServesFront
-            (session (W.contents writer.old) self.old (D.history disk.old)
-            (R.remaining reader.old) (frames R.Read W.Write D.Disk film.old))
-            (session (W.contents writer.new) self.new (D.history disk.new)
-            (R.remaining reader.new) (frames R.Read W.Write D.Disk film.new)) }
-        ensures turns { IsErrOf result ServeFault.Turns → ServesEnded
-            (session (W.contents writer.old) self.old (D.history disk.old)
-            (R.remaining reader.old) (frames R.Read W.Write D.Disk film.old))
-            (session (W.contents writer.new) self.new (D.history disk.new)
-            (R.remaining reader.new) (frames R.Read W.Write D.Disk film.new)) }
-        // The film's last note is of a failed read exactly if serving ends with that fault.
+            (R.remaining reader.new) (frames R.Read W.Write D.Disk film.new))
+            result }
+        // The latest frame of the film is of a failed read exactly if serving ends with the fault `Read`.
         ensures failed { HasFailedRead (frames R.Read W.Write D.Disk film.new) ↔ IsErrOf result ServeFault.Read }
         // However serving ends, the history of the disk continues from the one before, and its count of failures does not
         // fall.
         ensures disk { Continues (on_disk self.old.ledger (D.history disk.old)) (on_disk self.new.ledger (D.history disk.new)) }
-        // If serving ends for lack of reads, all allowed reads were made. It never makes more. Each read takes at least one
+        // At most `turns` reads are made, and exactly that many if serving ends for lack of reads. Each read takes at least one
         // byte, except possibly the last.
-        ensures enough { IsErrOf result ServeFault.Turns → MakesAllReads (frames R.Read W.Write D.Disk film.new)
-            (R.remaining reader.old) (R.remaining reader.new) turns }
-        ensures most { OnOk result (EndsWithinReads (frames R.Read W.Write D.Disk film.new)
-            (R.remaining reader.old) (R.remaining reader.new) turns) }
-        ensures most_at_read { IsErrOf result ServeFault.Read → EndsWithinReads (frames R.Read W.Write D.Disk film.new)
-            (R.remaining reader.old) (R.remaining reader.new) turns }
-        ensures most_at_write { IsErrOf result ServeFault.Write → MakesReadsUpTo (frames R.Read W.Write D.Disk film.new)
+        ensures reads { IsReadWithin result (frames R.Read W.Write D.Disk film.new)
             (R.remaining reader.old) (R.remaining reader.new) turns }
     {
         let mut block = blank_block();

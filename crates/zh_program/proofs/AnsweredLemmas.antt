@@ -1,12 +1,13 @@
 -- What a sheet, or a report of a tie, says about the count. A line without a command has few possible answers, which are
 -- checked one by one; the answer to a command reports an outcome, which is neither of the two.
-use Rattle.std.proofs.Common.{◌≡◌, ◌≢◌, ℕ, Bool, true, false, Option, Some, None, Result, Ok, Err, refl, sym, subst}
+use Rattle.std.proofs.Common.{◌≡◌, ◌≢◌, ℕ, List, Bool, true, false, Option, Some, None, Result, Ok, Err, refl, sym, subst}
 use Rattle.zh_returns.specs.declared.command.Command.{Command}
 use Rattle.zh_returns.specs.Tally.{Tally}
+use Rattle.zh_returns.specs.declared.row.Row.{Row}
+use Rattle.zh_csv.specs.declared.batch_reader.LoadFault.{LoadFault}
+use Rattle.zh_csv.specs.declared.batch_reader.LoadFault.TheVariants as loading
 use Rattle.zh_office.specs.DeskBatches as desks
-use Rattle.zh_office.specs.DeskBatches.{rows_of}
 use Rattle.zh_commands.specs.declared.lines.Line.{Line}
-use Rattle.zh_commands.specs.declared.lines.LineFault.{LineFault}
 use Rattle.zh_commands.specs.declared.lines.LineFault.TheVariants as lines
 use Rattle.zh_commands.specs.declared.replies.Reply.{Reply}
 use Rattle.zh_commands.specs.declared.replies.Reply.TheVariants.{Refused, Stored}
@@ -21,7 +22,7 @@ use Rattle.zh_sheet.specs.declared.fault.SheetFault.TheVariants as faults
 use Rattle.zh_upper.specs.declared.fault.UpperRefusal.TheVariants as uppers
 use Rattle.zh_sheet.specs.declared.fault.SheetRefusal.TheVariants as sheets
 use Rattle.zh_ledger.specs.Ledger.{Ledger}
-use Rattle.zh_ledger.specs.Submissions.{Log, OnDisk}
+use Rattle.zh_ledger.specs.Submissions.{OnDisk}
 use Rattle.zh_ledger.specs.declared.outcome.Outcome.{Outcome}
 use Rattle.zh_ledger.specs.declared.outcome.Outcome.TheVariants as outcomes
 use Rattle.zh_office.proofs.CallerLemmas.{is_plain, HoldsWithoutCommand, without_command}
@@ -29,6 +30,9 @@ use Rattle.zh_office.specs.Requests.{Acts, MayAnswerWhere, reply_to}
 use Rattle.zh_office.specs.Sheets.{MayGive, answer_with, sheet_refusal}
 use Rattle.zh_office.specs.declared.answer.Answer.{Answer}
 use Rattle.zh_office.specs.declared.answer.Answer.TheVariants as answers
+use Rattle.zh_office.specs.Exchanges.{Given}
+use Rattle.zh_office.specs.Exchanges.Given.{line, text}
+use Rattle.zh_office.specs.Load.{load_refusal, load_reply}
 use Rattle.zh_office.specs.Office.{MayAnswer, Office}
 use Rattle.zh_program.specs.Sheets.{FollowsFrom, IsTie}
 use Rattle.zh_program.proofs.TieLemmas.{tied_above, tied_seats}
@@ -134,33 +138,48 @@ outcome_plain outcomes.Spent = λ no. no
 outcome_plain outcomes.Device = λ no. no
 outcome_plain outcomes.Broken = λ no. no
 
-where_fair : (broken : Bool) (tally : Tally) (batches : desks.Held) (line : Line)
-    → AllStoreNone (totals_of tally) (MayAnswerWhere broken tally batches line)
-where_fair true tally batches line answer may = same_fair (totals_of tally) answer _ may (plain (totals_of tally) _ (λ no. no))
-where_fair false tally batches line answer may =
-    without_command tally (λ request answer. StoresNone (totals_of tally) answer) (answered_fair tally) batches line.desk line.request answer may
+where_fair : (broken : Bool) (tally : Tally) (batches : desks.Held) (read : Line)
+    → AllStoreNone (totals_of tally) (MayAnswerWhere broken tally batches read)
+where_fair true tally batches read answer may = same_fair (totals_of tally) answer _ may (plain (totals_of tally) _ (λ no. no))
+where_fair false tally batches read answer may =
+    without_command tally (λ request answer. StoresNone (totals_of tally) answer) (answered_fair tally) batches read.desk read.request answer may
 
-pub may_fair : (office : Office) (reading : Result Line LineFault) → AllStoreNone (totals_of office.ledger.tally) (MayAnswer office reading)
-may_fair office (Err lines.Syntax) answer may = same_fair _ answer _ may (plain (totals_of office.ledger.tally) _ (λ no. no))
-may_fair office (Err lines.Desk) answer may = same_fair _ answer _ may (plain (totals_of office.ledger.tally) _ (λ no. no))
-may_fair office (Ok line) answer may = where_fair office.ledger.store.broken office.ledger.tally office.held line answer may
+-- The reply to a text that gives no command reports neither a tie nor that something is stored.
+refused_plain : (fault : LoadFault) → ¬ IsMarked (answers.Reply (Refused (load_refusal fault)))
+refused_plain loading.Csv = λ no. no
+refused_plain loading.Syntax = λ no. no
+refused_plain (loading.Judged reason) = λ no. no
+refused_plain (loading.Row fault) = λ no. no
+refused_plain loading.Memory = λ no. no
+refused_plain loading.Read = λ no. no
+
+load_plain : (broken : Bool) (loaded : Result (List Row) LoadFault) → ¬ IsMarked (answers.Reply (load_reply broken loaded))
+load_plain true loaded = λ no. no
+load_plain false (Err fault) = refused_plain fault
+load_plain false (Ok rows) = λ no. no
+
+pub may_fair : (office : Office) (given : Given) → AllStoreNone (totals_of office.ledger.tally) (MayAnswer office given)
+may_fair office (line bytes (Err lines.Syntax)) answer may = same_fair _ answer _ may (plain (totals_of office.ledger.tally) _ (λ no. no))
+may_fair office (line bytes (Err lines.Desk)) answer may = same_fair _ answer _ may (plain (totals_of office.ledger.tally) _ (λ no. no))
+may_fair office (line bytes (Ok read)) answer may = where_fair office.ledger.store.broken office.ledger.tally office.held read answer may
+may_fair office (text bytes loaded) answer may = same_fair _ answer _ may (plain (totals_of office.ledger.tally) _ (load_plain office.ledger.store.broken loaded))
 
 -- An answer is true of the count after it.
-pub acts_fair : (old new : OnDisk Ledger) (command : Option Command) (May : Answer → Type 0) (answer : Answer) (more : Log)
+pub acts_fair : (old new : OnDisk Ledger) (command : Option Command) (May : Answer → Type 0) (answer : Answer)
     → AllStoreNone (totals_of old.holder.tally) May
-    → Acts old command May answer more new
+    → Acts old command May answer new
     → IsFair (totals_of new.holder.tally) answer
-acts_fair old new None May answer more fair (may, none, same) =
+acts_fair old new None May answer fair (may, same) =
     subst (λ (o : OnDisk Ledger). IsFair (totals_of o.holder.tally) answer) (sym same) (fair answer may).fair
-acts_fair old new (Some command) May answer more fair (by, logs) =
+acts_fair old new (Some command) May answer fair by =
     let totals = totals_of new.holder.tally in
     subst (IsFair totals) (sym by.reply) (fair_reply totals (reply_to by.outcome) (outcome_plain by.outcome))
 
 -- Only a command is answered `stored`.
-pub acts_stored : (old new : OnDisk Ledger) (command : Option Command) (May : Answer → Type 0) (answer : Answer) (more : Log)
+pub acts_stored : (old new : OnDisk Ledger) (command : Option Command) (May : Answer → Type 0) (answer : Answer)
     → AllStoreNone (totals_of old.holder.tally) May
-    → Acts old command May answer more new
+    → Acts old command May answer new
     → (number : ℕ) → answer ≡ answers.Reply (Stored number)
     → command ≢ None
-acts_stored old new None May answer more fair (may, none, same) number is = absurd ((fair answer may).unstored number is)
-acts_stored old new (Some command) May answer more fair (by, logs) number is = λ no. absurd cc
+acts_stored old new None May answer fair (may, same) number is = absurd ((fair answer may).unstored number is)
+acts_stored old new (Some command) May answer fair by number is = λ no. absurd cc

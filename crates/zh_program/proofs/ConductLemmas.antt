@@ -11,7 +11,7 @@ use Rattle.zh_ledger.specs.Submissions.{OnDisk}
 use Rattle.zh_ledger.specs.declared.opening.OpenFault.{OpenFault}
 use Rattle.zh_office.specs.Office.{Office}
 use Rattle.zh_program.specs.Opened.{IsFrom}
-use Rattle.zh_program.specs.Exchanges.{Exchange}
+use Rattle.zh_office.specs.Exchanges.{Exchange}
 use Rattle.zh_program.specs.Run.{Streams}
 use Rattle.zh_program.specs.Headline.{Headline}
 use Rattle.zh_program.specs.Order.{Conversation}

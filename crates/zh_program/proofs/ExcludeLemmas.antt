@@ -24,13 +24,13 @@ use Rattle.zh_ledger.specs.Submissions.{Log}
 use Rattle.zh_ledger.proofs.CallerLemmas.{one_count}
 use Rattle.zh_office.specs.declared.answer.Answer.{Answer}
 use Rattle.zh_office.specs.declared.answer.Answer.TheVariants as answers
-use Rattle.zh_program.specs.Exchanges.{Exchange, count_by, disk_by, log_by, log_of}
+use Rattle.zh_office.specs.Exchanges.{Exchange, count_by, disk_by, log_by, log_of}
 use Rattle.zh_program.specs.Headline.{Headline}
 use Rattle.zh_program.specs.Order.{Conversation}
 use Rattle.zh_program.specs.Stopped.{Always}
 use Rattle.zh_program.proofs.AlwaysLemmas.{AtMoment}
 use Rattle.zh_program.proofs.EmptyLemmas.{now_first}
-use Rattle.zh_program.proofs.ExchangeLemmas.{log_more}
+use Rattle.zh_office.proofs.CallerLemmas.{log_more}
 
 -- Commands, each acceptable after the ones before it, are counted once each.
 abbrev pub AreJudged : Tally → List Command → Type 0

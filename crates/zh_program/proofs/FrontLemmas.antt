@@ -12,9 +12,9 @@ use Rattle.zh_commands.specs.declared.replies.Reply.{Reply}
 use Rattle.zh_ledger.specs.Submissions.{Log, followed_by, nothing}
 use Rattle.zh_office.specs.declared.answer.Answer.{Answer}
 use Rattle.zh_office.specs.declared.answer.Answer.TheVariants as answers
-use Rattle.zh_program.specs.Exchanges.{Exchange, Given, answer_to_given, log_by, log_of, text_of}
-use Rattle.zh_program.specs.Exchanges.Given.{line, text}
-use Rattle.zh_program.proofs.ExchangeLemmas.{log_append, log_more}
+use Rattle.zh_office.specs.Exchanges.{Exchange, Given, answer_to_given, log_by, log_of, text_of}
+use Rattle.zh_office.specs.Exchanges.Given.{line, text}
+use Rattle.zh_office.proofs.CallerLemmas.{log_append, log_more}
 use Rattle.zh_program.proofs.ExcludeLemmas.{one_at_most}
 
 -- An answer that logs a command has a text.

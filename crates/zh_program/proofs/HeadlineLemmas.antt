@@ -3,7 +3,7 @@ use Rattle.std.proofs.Common.{◌≡◌, List, [], ◌∷◌, ◌++◌}
 use Rattle.zh_disk.specs.Disk.{Trail}
 use Rattle.zh_returns.specs.Tally.{Tally}
 use Rattle.zh_ledger.specs.Stands.{Holds}
-use Rattle.zh_program.specs.Exchanges.{Exchange, disk_by}
+use Rattle.zh_office.specs.Exchanges.{Exchange, disk_by}
 use Rattle.zh_program.specs.Headline.{Headline}
 use Rattle.zh_program.specs.Order.{Conversation}
 use Rattle.zh_program.specs.Stopped.{Always}

@@ -1,5 +1,5 @@
 -- What is kept of the commands of a run or a load.
-use Rattle.std.proofs.Common.{◌≡◌, ◌∙◌, ◌⊎◌, ⊎_elim, ℕ, Bool, List, Option, Ok, IsTrue, sym, ap, subst}
+use Rattle.std.proofs.Common.{◌≡◌, ◌∙◌, ◌⊎◌, ⊎_elim, ℕ, List, Ok, IsTrue, sym, ap, subst}
 use Rattle.zh_districts.specs.Canton.{Canton, IsCanton}
 use Rattle.zh_districts.proofs.CallerLemmas.{same_setup}
 use Rattle.zh_districts.specs.Spelling.{setup_spelling}
@@ -13,20 +13,9 @@ use Rattle.zh_ledger.specs.Images.{ComesToHave, HasSome}
 use Rattle.zh_ledger.specs.Opening.{MayLeave, Migrates, Opens}
 use Rattle.zh_ledger.specs.Stands.{Holds, HoldsFramed}
 use Rattle.zh_ledger.specs.Submissions.{IsLogged, Log, OnDisk}
-use Rattle.zh_ledger.proofs.CallerLemmas.{found_count, has_none, migrated_holds, submits_logged}
-use Rattle.zh_commands.specs.declared.replies.Reply.{Reply}
-use Rattle.zh_office.specs.Load.{LoadTurn, command_loaded}
-use Rattle.zh_office.specs.Office.{Office}
-use Rattle.zh_office.specs.Runs.{its_ledger}
-use Rattle.zh_office.proofs.CallerLemmas.{acts_submitted}
+use Rattle.zh_ledger.proofs.CallerLemmas.{found_count, has_none, migrated_holds}
+use Rattle.zh_office.specs.Office.{Office, its_ledger}
 use Rattle.zh_program.specs.Opened.{IsFrom, KeepsAll}
-
--- A loaded text is one command or none.
-pub load_is_logged : (old : OnDisk Office) (text : Option (List ℕ)) (failed : Bool) (reply : Reply) (new : OnDisk Office)
-    (turn : LoadTurn old text failed reply new) → IsTrue new.history.honest → IsLogged (its_ledger old) turn.log (its_ledger new)
-load_is_logged old text failed reply new turn honest =
-    let run = acts_submitted (its_ledger old) (command_loaded old.holder.ledger.store.broken turn.loaded) _ _ turn.log (its_ledger new) turn.acts in
-    submits_logged (its_ledger old) run.0 turn.log (its_ledger new) honest run.2
 
 module _ (canton : Canton) (first last : History) (start end : OnDisk Office) (log : Log) (tally : Tally) (honest : IsTrue last.honest) (from : IsFrom canton first last start end)
     (logs : IsLogged (its_ledger start) log (its_ledger end)) (limits : IsCanton canton) (own : IsCanton tally.canton) (holds : Holds tally first.trail.now.bytes) where

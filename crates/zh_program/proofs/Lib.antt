@@ -22,7 +22,6 @@ mod AlwaysLemmas
 mod SoundLemmas
 mod TieLemmas
 mod AnsweredLemmas
-mod ExchangeLemmas
 mod TurnLemmas
 mod UnreadLemmas
 mod RunLemmas

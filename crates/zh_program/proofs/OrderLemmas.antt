@@ -1,9 +1,8 @@
--- The exchanges of a conversation that is in order. An office keeps the order of its steps, which are the exchanges. Each part
--- of the steps is part of the exchanges, so the order can be stated by the number of exchanges that are answered.
-use Rattle.std.proofs.Common.{◌≡◌, ◌≤◌, ◌⊎◌, ◌+◌, ℕ, List, [], ◌∷◌, ◌++◌, map, length, take, Option}
+-- The exchanges of a conversation that is in order. The order can be stated by the number of exchanges that are answered.
+use Rattle.std.proofs.Common.{◌≡◌, ◌≤◌, ◌⊎◌, ◌+◌, ℕ, List, [], ◌∷◌, ◌++◌, length, take, Option}
 use Rattle.std.proofs.Common.{inl, inr, ⊎_elim, refl, sym, ◌∙◌, ap, subst, arith, append_assoc, length-append}
 use Rattle.std.proofs.Math.Seq.{take-append-add, take-append_seam, take-length}
-use Rattle.std.proofs.lemmas.List.{append-nil, length-map, map-append}
+use Rattle.std.proofs.lemmas.List.{append-nil}
 use Rattle.std.proofs.lemmas.List.Concat.{flat_map-append}
 use Rattle.std.specs.Prelude.{flat_map}
 use Rattle.std.specs.Io.KnownBytes.{Appends}
@@ -14,116 +13,32 @@ use Rattle.zh_returns.specs.declared.command.Command.{Command}
 use Rattle.zh_returns.specs.Tally.{Tally}
 use Rattle.zh_ledger.specs.Images.{HasSome}
 use Rattle.zh_ledger.specs.Submissions.{Log}
-use Rattle.zh_office.specs.Order as steps
-use Rattle.zh_office.specs.Order.{ComesAfter, IsDone, Step, disk_after, texts}
-use Rattle.zh_program.specs.Exchanges.{Exchange, disk_by, line_in, log_of, text_of}
+use Rattle.zh_office.specs.Order.{ComesAfter, IsDone, IsTold as IsWritten}
+use Rattle.zh_office.specs.Exchanges.{Exchange, disk_by, lines_given, log_of, text_of}
+use Rattle.zh_office.proofs.CallerLemmas.{disk-append, log_append}
 use Rattle.zh_program.specs.Order.{AnswersBeforeReading, Conversation, KeepsWhatIsTold, Throughout}
 use Rattle.zh_program.specs.Stopped.{Always}
 use Rattle.zh_program.proofs.AlwaysLemmas.{always_same}
-use Rattle.zh_program.proofs.ExchangeLemmas.{disk_more, log_append}
 use Rattle.zh_program.proofs.SoundLemmas.{has_front}
 use Rattle.zh_program.proofs.TurnLemmas.{AreTurns, at_any, at_one}
 
--- An exchange as a step.
-abbrev pub step_in : Exchange → Step
-step_in x = record { line = line_in x.given; text = text_of x; disk = x.disk }
-
 -- The conversation consists of these exchanges, in order.
 abbrev pub IsTold : List Exchange → Conversation → Type 0
-IsTold xs talk = Throughout (ComesAfter (map step_in xs)) talk
+IsTold xs talk = Throughout (ComesAfter xs) talk
 
-texts_in : (xs : List Exchange) → texts (map step_in xs) ≡ flat_map text_of xs
-texts_in [] = refl
-texts_in (x ∷ xs) = ap (λ (l : List ℕ). text_of x ++ l) (texts_in xs)
+module _ (xs : List Exchange) (first a b : Frame) (by : ComesAfter xs first a b) where
+  seam : take (length by.done) xs ≡ by.done
+  seam = ap (take (length by.done)) by.parts ∙ take-append_seam by.done (by.one ++ by.rest)
 
-disk_in : (t : Trail) (xs : List Exchange) → disk_after t (map step_in xs) ≡ disk_by t xs
-disk_in t [] = refl
-disk_in t (x ∷ xs) = disk_in x.disk xs
-
-lines_in : (xs : List Exchange) → map (λ (s : Step). s.line) (map step_in xs) ≡ map (λ (x : Exchange). line_in x.given) xs
-lines_in [] = refl
-lines_in (x ∷ xs) = ap (λ (l : List (Option (List ℕ))). line_in x.given ∷ l) (lines_in xs)
-
--- A prefix of the steps gives a prefix of the exchanges.
-record HasParts (xs : List Exchange) (front back : List Step) : Type 0 where
-  done : List Exchange
-  rest : List Exchange
-  parts : xs ≡ done ++ rest
-  front_is : map step_in done ≡ front
-  back_is : map step_in rest ≡ back
-
-has_parts : (xs : List Exchange) (front back : List Step) → map step_in xs ≡ front ++ back → HasParts xs front back
-has_parts xs [] back is = record { done = []; rest = xs; parts = refl; front_is = refl; back_is = is }
-has_parts [] (s ∷ front) back is = absurd cc
-has_parts (x ∷ xs) (s ∷ front) back is =
-    let one : step_in x ≡ s = cc in
-    let others : map step_in xs ≡ front ++ back = cc in
-    let by = has_parts xs front back others in
-    record {
-      done = x ∷ by.done;
-      rest = by.rest;
-      parts = ap (λ (l : List Exchange). x ∷ l) by.parts;
-      front_is = ap (λ (l : List Step). step_in x ∷ l) by.front_is ∙ ap (λ (z : Step). z ∷ front) one;
-      back_is = by.back_is;
-    }
-
--- Two consecutive times, with the exchanges between them.
-record Comes (xs : List Exchange) (first a b : Frame) : Type 0 where
-  done : List Exchange
-  one : List Exchange
-  rest : List Exchange
-  parts : xs ≡ done ++ (one ++ rest)
-  single : length one ≤ 1
-  written : Appends first.written a.written (flat_map text_of done)
-  disk : b.disk ≡ disk_by first.disk (done ++ one)
-  moves : IsDone (disk_by first.disk done) a b ⊎ steps.IsTold (flat_map text_of one) a b
-
-module _ (xs : List Exchange) (first a b : Frame) (by : ComesAfter (map step_in xs) first a b) where
-  front : HasParts xs by.done (by.one ++ by.rest)
-  front = has_parts xs by.done (by.one ++ by.rest) by.parts
-
-  -- The first exchange of those that are left.
-  next_one : (f : HasParts xs by.done (by.one ++ by.rest)) → HasParts f.rest by.one by.rest
-  next_one f = has_parts f.rest by.one by.rest f.back_is
-
-  comes_by : (f : HasParts xs by.done (by.one ++ by.rest)) → HasParts f.rest by.one by.rest → Comes xs first a b
-  comes_by f n =
-      let told : texts by.done ≡ flat_map text_of f.done = ap texts (sym f.front_is) ∙ texts_in f.done in
-      let others : texts by.one ≡ flat_map text_of n.done = ap texts (sym n.front_is) ∙ texts_in n.done in
-      let before : disk_after first.disk by.done ≡ disk_by first.disk f.done = ap (disk_after first.disk) (sym f.front_is) ∙ disk_in first.disk f.done in
-      let both : map step_in (f.done ++ n.done) ≡ by.done ++ by.one
-      = map-append step_in f.done n.done ∙ ap (λ (l : List Step). l ++ map step_in n.done) f.front_is ∙ ap (λ (l : List Step). by.done ++ l) n.front_is in
-      record {
-        done = f.done;
-        one = n.done;
-        rest = n.rest;
-        parts = f.parts ∙ ap (λ (l : List Exchange). f.done ++ l) n.parts;
-        single = omega (arith, by.single, length-map n.done step_in, ap length n.front_is);
-        written = subst (Appends first.written a.written) told by.written;
-        disk = by.disk ∙ ap (disk_after first.disk) (sym both) ∙ disk_in first.disk (f.done ++ n.done);
-        moves = ⊎_elim
-            (λ (w : IsDone (disk_after first.disk by.done) a b). inl (subst (λ (t : Trail). IsDone t a b) before w))
-            (λ (w : steps.IsTold (texts by.one) a b). inr (subst (λ (l : List ℕ). steps.IsTold l a b) others w))
-            by.moves;
-      }
-
-  comes : Comes xs first a b
-  comes = comes_by front (next_one front)
+  answered : Appends first.written a.written (flat_map text_of (take (length by.done) xs))
+  answered = subst (λ (d : List Exchange). Appends first.written a.written (flat_map text_of d)) (sym seam) by.written
 
   -- A read comes after all lines are answered.
   pub before_reading : AnswersBeforeReading xs first a b
   before_reading = record {
     reads = λ asks.
         let all = by.answered asks in
-        let seam : take (length front.done) xs ≡ front.done = ap (take (length front.done)) front.parts ∙ take-append_seam front.done front.rest in
-        record {
-          input = all.0;
-          read = all.1;
-          replied = length front.done;
-          lines = ap (map (λ (x : Exchange). line_in x.given)) seam ∙ sym (lines_in front.done) ∙ ap (map (λ (s : Step). s.line)) front.front_is ∙ sym all.2;
-          written = subst (λ (d : List Exchange). Appends first.written a.written (flat_map text_of d)) (sym seam)
-              (subst (Appends first.written a.written) (ap texts (sym front.front_is) ∙ texts_in front.done) by.written);
-        };
+        record { input = all.0; read = all.1; replied = length by.done; lines = ap lines_given seam ∙ sym all.2; written = answered };
     unread = by.unread;
   }
 
@@ -168,7 +83,7 @@ module _ (tally : Tally) (first : Frame) (xs : List Exchange) (turns : AreTurns 
       let stopped = (at_one tally first.disk [] done rest x xs turns parts).stopped in
       let next : take (length done + 1) xs ≡ done ++ x ∷ [] = ap (take (length done + 1)) parts ∙ take-append-add done (x ∷ rest) 1 in
       subst (λ (l : List Exchange). Always (HasSome tally (log_of l).accepted (log_of done).acknowledged) a.disk b.disk) (sym next)
-      (subst (λ (t : Trail). Always P t b.disk) (sym still) (subst (Always P (disk_by first.disk done)) (sym (disk ∙ disk_more first.disk done x)) stopped))
+      (subst (λ (t : Trail). Always P t b.disk) (sym still) (subst (Always P (disk_by first.disk done)) (sym (disk ∙ disk-append first.disk done (x ∷ []))) stopped))
   at_work done (x ∷ (y ∷ more)) rest parts single disk still = absurd (omega (arith, single))
 
   -- While an answer is written.
@@ -181,30 +96,24 @@ module _ (tally : Tally) (first : Frame) (xs : List Exchange) (turns : AreTurns 
       always_same (HasSome tally (log_of (take (length done + 1) xs)).accepted (log_of (done ++ one)).acknowledged) a.disk b.disk (sym rests)
       (λ c image. has_next done one rest parts single (log_of (done ++ one)).acknowledged c (rested c (subst (λ (t : Trail). IsImage t.now c) (rests ∙ disk) image)))
 
-  module _ (by : Comes xs first a b) where
-    seam : take (length by.done) xs ≡ by.done
-    seam = ap (take (length by.done)) by.parts ∙ take-append_seam by.done (by.one ++ by.rest)
-
-    answered : Appends first.written a.written (flat_map text_of (take (length by.done) xs))
-    answered = subst (λ (d : List Exchange). Appends first.written a.written (flat_map text_of d)) (sym seam) by.written
-
+  module _ (by : ComesAfter xs first a b) where
     -- Nothing is written.
     keeps_done : IsDone (disk_by first.disk by.done) a b → KeepsWhatIsTold tally xs first a b
     keeps_done w =
         let all = flat_map text_of (take (length by.done) xs) in
         record {
           replied = length by.done;
-          answered = answered;
+          answered = answered xs first a b by;
           told = length by.done;
           one_more = inl refl;
           front = length all;
-          written = subst (Appends first.written b.written) (sym (take-length all)) (subst (λ (o : Option (List ℕ)). Appends first.written o all) (sym w.unwritten) answered);
-          kept = subst (λ (d : List Exchange). Always (HasSome tally (log_of (take (length by.done + 1) xs)).accepted (log_of d).acknowledged) a.disk b.disk) (sym seam)
+          written = subst (Appends first.written b.written) (sym (take-length all)) (subst (λ (o : Option (List ℕ)). Appends first.written o all) (sym w.unwritten) (answered xs first a b by));
+          kept = subst (λ (d : List Exchange). Always (HasSome tally (log_of (take (length by.done + 1) xs)).accepted (log_of d).acknowledged) a.disk b.disk) (sym (seam xs first a b by))
               (at_work by.done by.one by.rest by.parts by.single by.disk w.still);
         }
 
     -- A prefix of an answer is written.
-    keeps_told : steps.IsTold (flat_map text_of by.one) a b → KeepsWhatIsTold tally xs first a b
+    keeps_told : IsWritten (flat_map text_of by.one) a b → KeepsWhatIsTold tally xs first a b
     keeps_told w =
         let both : take (length (by.done ++ by.one)) xs ≡ by.done ++ by.one
         = ap (take (length (by.done ++ by.one))) (by.parts ∙ sym (append_assoc by.done by.one by.rest)) ∙ take-append_seam (by.done ++ by.one) by.rest in
@@ -215,7 +124,7 @@ module _ (tally : Tally) (first : Frame) (xs : List Exchange) (turns : AreTurns 
         ∙ ap (λ (l : List ℕ). before ++ l) (sym w.front) ∙ sym (append_assoc before w.text w.more) in
         record {
           replied = length by.done;
-          answered = answered;
+          answered = answered xs first a b by;
           told = length (by.done ++ by.one);
           one_more = one_or_none by.done by.one by.single;
           front = length written;
@@ -226,7 +135,7 @@ module _ (tally : Tally) (first : Frame) (xs : List Exchange) (turns : AreTurns 
         }
 
     keeps : KeepsWhatIsTold tally xs first a b
-    keeps = ⊎_elim (λ (w : IsDone (disk_by first.disk by.done) a b). keeps_done w) (λ (w : steps.IsTold (flat_map text_of by.one) a b). keeps_told w) by.moves
+    keeps = ⊎_elim (λ (w : IsDone (disk_by first.disk by.done) a b). keeps_done w) (λ (w : IsWritten (flat_map text_of by.one) a b). keeps_told w) by.moves
 
 in_order_map : (P Q : Frame → Frame → Type 0) → ((a b : Frame) → P a b → Q a b) → (first : Frame) (film : List Frame) (last : Frame)
     → InOrder P first film last
@@ -236,10 +145,10 @@ in_order_map P Q so first (f ∷ film) last order = (so f last order.0, in_order
 
 pub awaited_of : (talk : Conversation) (xs : List Exchange) → IsTold xs talk → Throughout (AnswersBeforeReading xs) talk
 awaited_of talk xs told =
-    in_order_map (ComesAfter (map step_in xs) talk.first) (AnswersBeforeReading xs talk.first) (λ a b by. before_reading xs talk.first a b by) talk.first talk.noted talk.last told
+    in_order_map (ComesAfter xs talk.first) (AnswersBeforeReading xs talk.first) (λ a b by. before_reading xs talk.first a b by) talk.first talk.noted talk.last told
 
 pub order_of : (tally : Tally) (talk : Conversation) (xs : List Exchange) → AreTurns tally talk.first.disk [] xs → IsTold xs talk
     → Throughout (λ first a b. KeepsWhatIsTold tally xs first a b × AnswersBeforeReading xs first a b) talk
 order_of tally talk xs turns told =
-    in_order_map (ComesAfter (map step_in xs) talk.first) (λ a b. KeepsWhatIsTold tally xs talk.first a b × AnswersBeforeReading xs talk.first a b)
-    (λ a b by. (keeps tally talk.first xs turns a b (comes xs talk.first a b by), before_reading xs talk.first a b by)) talk.first talk.noted talk.last told
+    in_order_map (ComesAfter xs talk.first) (λ a b. KeepsWhatIsTold tally xs talk.first a b × AnswersBeforeReading xs talk.first a b)
+    (λ a b by. (keeps tally talk.first xs turns a b by, before_reading xs talk.first a b by)) talk.first talk.noted talk.last told

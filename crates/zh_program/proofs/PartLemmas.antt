@@ -16,12 +16,12 @@ use Rattle.zh_arguments.specs.declared.arguments.Task.{Task}
 use Rattle.zh_arguments.specs.declared.arguments.Task.TheVariants.{Format, Run, Load}
 use Rattle.zh_file.specs.Files.{BeginsOrIsMade}
 use Rattle.zh_program.specs.Format.{Formatted, FormatsBlank}
-use Rattle.zh_program.specs.Load.{HasLoaded, LoadsFile, LoadsText}
+use Rattle.zh_program.specs.Load.{HasLoaded, LoadedBy, LoadsFile}
 use Rattle.zh_program.specs.OnDisk.{HasUsed, UsesDisk}
 use Rattle.zh_program.specs.Opened.{IsFrom, IsOnlyOpened, WithOffice}
 use Rattle.zh_film.specs.Frames.{frame_of, frames}
 use Rattle.zh_film.specs.Scenes.{scenes}
-use Rattle.zh_program.specs.Run.{Ran, Serves, Streams, streams_of}
+use Rattle.zh_program.specs.Run.{Ran, ServedBy, Streams, streams_of}
 use Rattle.zh_program.specs.Reading.{MakesReading}
 use Rattle.zh_program.specs.World.{EndOf, FilmedOf, IsMetAt, IsSetupAt, Known, WorldOf}
 use Rattle.zh_program.specs.declared.on_disk.Work.{Work}
@@ -29,7 +29,7 @@ use Rattle.zh_program.specs.declared.fault.TaskFault.{TaskFault}
 use Rattle.zh_program.specs.declared.fault.TaskFault.TheVariants as faults
 use Rattle.zh_file.specs.declared.fault.FileFault.{FileFault}
 use Rattle.zh_program.specs.Due.{AnswerLines, AreOfTask, conversation, talk_of}
-use Rattle.zh_program.specs.Exchanges.{Exchange}
+use Rattle.zh_office.specs.Exchanges.{Exchange}
 use Rattle.zh_program.specs.Order.{Conversation}
 use Rattle.zh_program.specs.Stopped.{MakesEmpty}
 use Rattle.zh_program.proofs.BeginningLemmas.{begun_filled, begun_there, fresh_made, known_made}
@@ -38,7 +38,7 @@ use Rattle.zh_program.proofs.EmptyLemmas.{formatted_left, not_formatted}
 use Rattle.zh_program.proofs.EndingLemmas.{TellsOfFault}
 use Rattle.zh_program.proofs.LoadedLemmas.{HasAnswered, load_done, refused_answered}
 use Rattle.zh_program.proofs.OrderLemmas.{IsTold}
-use Rattle.zh_program.proofs.ServedLemmas.{HasServed, none_due, serve_done}
+use Rattle.zh_program.proofs.ServedLemmas.{IsServed, none_due, serve_done}
 use Rattle.zh_program.proofs.TalkLemmas.{IsSilent, talking, told_none}
 
 pub setup_limits : (known : Option (List ℕ)) (canton : Canton) → IsSetupAt known canton → IsCanton canton
@@ -105,7 +105,7 @@ module _ (of : Known) where
     none_shown : scenes used.film ≡ [] → frames of.readers of.writers of.disks used.film ≡ []
     none_shown none = ap (map (frame_of of.readers of.writers of.disks)) none
 
-    served : (paths : Paths) → HasServed before now status (IsFrom canton begun ended) → HasDone (Run paths) old after status canton begun used
+    served : (paths : Paths) → IsServed before now status (IsFrom canton begun ended) → HasDone (Run paths) old after status canton begun used
     served paths by =
         let opened = by.start.history.trail in
         let told : IsTold by.exchanges (talking before now opened ended.trail)
@@ -122,7 +122,7 @@ module _ (of : Known) where
         → HasDone (Run paths) old after status canton begun used
     run_part paths ran =
         let untouched : Type 0 = (after.input ≡ old.input) × (after.output ≡ old.output) × (scenes used.film ≡ []) in
-        by_office canton begun ended untouched (Serves before now) result ran.served
+        by_office canton begun ended untouched (ServedBy before now) result ran.served
         (λ fault is same opening.
         let silent : IsSilent before now
         = record { left = ap of.readers.remaining same.0; written = ap of.writers.contents same.1; film = none_shown same.2 } in
@@ -151,7 +151,7 @@ module _ (of : Known) where
         = λ same. record { left = left; written = ap of.writers.contents same.0; film = none_shown same.1 } in
         let answered : HasAnswered known by.text before now read status canton limits begun ended → HasDone (Load paths csv) old after status canton begun used
         = λ a. record { exchanges = a.exchanges; opened = a.opened; due = a.due; told = a.told; kept = a.kept } in
-        by_office canton begun ended untouched (LoadsFile Met unwritten (LoadsText by.text before now)) result by.loaded
+        by_office canton begun ended untouched (LoadsFile Met unwritten (LoadedBy by.text before now)) result by.loaded
         (λ fault is same opening.
         let unchanged = silent (ap (λ (world : WorldOf of). world.output) same.0, same.1) in
         answered (refused_answered known by.text before now read status canton limits begun ended fault (failed (faults.Open fault) is) unchanged opening))

@@ -1,4 +1,4 @@
--- What a reading has done, by its result.
+-- What a task that only reads a count has done, by its result.
 use Rattle.std.proofs.Common.{◌≡◌, Result, Ok, Err, IfErr, refl}
 use Rattle.zh_disk.specs.History.{History}
 use Rattle.zh_districts.specs.Canton.{Canton}
@@ -14,7 +14,7 @@ use Rattle.zh_program.proofs.ReadingFaults.{IsOfReading}
 use Rattle.zh_program.specs.World.{Known, WorldOf}
 use Rattle.zh_program.specs.declared.fault.TaskFault.{TaskFault}
 use Rattle.zh_program.specs.declared.fault.TaskFault.TheVariants as faults
-use Rattle.zh_program.proofs.StartLemmas.{begun_at, leaves_after, refused_leaves, starts, untouched_leaves}
+use Rattle.zh_program.proofs.StartLemmas.{leaves_after, refused_leaves, starts, untouched_leaves}
 
 -- Its fault is not one of opening the office.
 with_reading : (canton : Canton) (first last : History) (nothing : Type 0)
@@ -51,7 +51,7 @@ module _ (of : Known) (Reads : Tally → WorldOf of → WorldOf of → Result (U
   was_read office opening held new result done stays calm =
       let start = on_disk office ended in
       let begins : IsFrom canton first ended start start
-      = begun_at canton first ended start (starts canton first start opening held) (λ h. h) start start (refl, refl) in
+      = record { begun = starts canton first start opening held; ended = refl; honest = λ h. h } in
       let Does = λ (Spans : OnDisk Office → OnDisk Office → Type 0) (end : Result (Unit {0}) TaskFault).
       (s : OnDisk Office) × Spans s s × Reads s.holder.ledger.tally old new end in
       record {

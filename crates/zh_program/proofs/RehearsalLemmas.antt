@@ -10,7 +10,7 @@ use Rattle.zh_arguments.specs.declared.arguments.Task.{Task}
 use Rattle.zh_arguments.specs.declared.arguments.Task.TheVariants as tasks
 use Rattle.zh_program.specs.OnDisk.{UsesDisk}
 use Rattle.zh_program.specs.Rehearse.{IsRehearsal, Rehearsed as HasRehearsed, Rehearses, in_memory, rehearsal_shown}
-use Rattle.zh_program.specs.Run.{Serves, Streams, streams_of}
+use Rattle.zh_program.specs.Run.{ServedBy, Streams, streams_of}
 use Rattle.zh_program.specs.Tasks.{Does}
 use Rattle.zh_program.specs.World.{FilmedOf, Known, UsedOf, WorldOf}
 use Rattle.zh_program.specs.declared.fault.TaskFault.{TaskFault}
@@ -28,7 +28,7 @@ use Rattle.zh_program.proofs.TalkLemmas.{IsSilent, talking, told_none}
 
 -- Either the rehearsal was served, or nothing was done.
 by_case : {X : Type 0} (nothing : Type 0) (old new : Streams) (result : Result (Unit {0}) TaskFault) → HasRehearsed nothing old new result
-    → ((fault : TaskFault) → result ≡ Err fault → nothing → X) → (Serves old new IsRehearsal result → X) → X
+    → ((fault : TaskFault) → result ≡ Err fault → nothing → X) → (ServedBy old new IsRehearsal result → X) → X
 by_case nothing old new (Err faults.Memory) by none serves = none faults.Memory refl by
 by_case nothing old new result by none serves = serves by
 

@@ -25,7 +25,8 @@ use Rattle.zh_office.specs.Requests.{Acts, reply_to}
 use Rattle.zh_office.specs.declared.answer.Answer.{Answer}
 use Rattle.zh_office.specs.declared.answer.Answer.TheVariants as answers
 use Rattle.zh_commands.specs.declared.replies.Reply.TheVariants as replies
-use Rattle.zh_program.specs.Exchanges.{count_by}
+use Rattle.zh_office.specs.Exchanges.{count_by, log_by}
+use Rattle.zh_office.proofs.CallerLemmas.{reported_log}
 use Rattle.zh_program.specs.Stopped.{Always}
 use Rattle.zh_program.proofs.AlwaysLemmas.{always_left, always_same}
 
@@ -181,17 +182,15 @@ outcome_goes_on tally log old new command Device sound results becomes leaves =
 outcome_goes_on tally log old new command outcome sound results becomes leaves = quiet tally log old new sound becomes leaves
 
 pub acts_goes_on : (tally : Tally) (log : Log) (old new : OnDisk Ledger)
-    (command : Option Command) (May : Answer → Type 0) (answer : Answer) (more : Log)
+    (command : Option Command) (May : Answer → Type 0) (answer : Answer)
     → IsSoundBy tally log old
     → IsTrue new.history.honest
-    → Acts old command May answer more new
-    → GoesOnBy tally log more old new
-acts_goes_on tally log old new None May answer more sound honest (may, none, same) =
-    let holder = ap (λ (o : OnDisk Ledger). o.holder) same in
-    let trail = ap (λ (o : OnDisk Ledger). o.history.trail) same in
-    subst (λ (l : Log). GoesOnBy tally log l old new) (sym none) (quiet tally log old new sound holder trail)
-acts_goes_on tally log old new (Some command) May answer more sound honest (by, logs) =
-    subst (λ (l : Log). GoesOnBy tally log l old new) (sym (logs ∙ by.submission.logs))
+    → Acts old command May answer new
+    → GoesOnBy tally log (log_by command answer) old new
+acts_goes_on tally log old new None May answer sound honest (may, same) =
+    quiet tally log old new sound (ap (λ (o : OnDisk Ledger). o.holder) same) (ap (λ (o : OnDisk Ledger). o.history.trail) same)
+acts_goes_on tally log old new (Some command) May answer sound honest by =
+    subst (λ (l : Log). GoesOnBy tally log l old new) (sym (reported_log old new command answer by))
     (outcome_goes_on tally log old new command by.outcome sound by.submission.results by.submission.after (by.submission.call.did honest).leaves)
 
 -- An accepted command was judged acceptable.
@@ -211,13 +210,13 @@ accepted_where : (b : Bool) (s : Ledger) (c d : Command) (outcome : Outcome) →
 accepted_where true s c d outcome may same = let wrong : [] ≡ d ∷ [] = subst (λ (o : Outcome). (logged c o).accepted ≡ d ∷ []) may same in absurd cc
 accepted_where false s c d outcome may same = (accepted_by (judge s.tally c) s c d outcome refl may same, refl)
 
-pub acts_accepted : (old new : OnDisk Ledger) (command : Option Command) (May : Answer → Type 0) (answer : Answer) (more : Log) (d : Command)
-    → Acts old command May answer more new
-    → more.accepted ≡ d ∷ []
+pub acts_accepted : (old new : OnDisk Ledger) (command : Option Command) (May : Answer → Type 0) (answer : Answer) (d : Command)
+    → Acts old command May answer new
+    → (log_by command answer).accepted ≡ d ∷ []
     → (judge old.holder.tally d ≡ verdicts.Accept) × (old.holder.store.broken ≡ false)
-acts_accepted old new None May answer more d (may, none, same) is = let wrong : [] ≡ d ∷ [] = sym (ap (λ (l : Log). l.accepted) none) ∙ is in absurd cc
-acts_accepted old new (Some command) May answer more d (by, logs) is =
-    let one : (logged command by.outcome).accepted ≡ d ∷ [] = sym (ap (λ (l : Log). l.accepted) (logs ∙ by.submission.logs)) ∙ is in
+acts_accepted old new None May answer d acts is = absurd cc
+acts_accepted old new (Some command) May answer d by is =
+    let one : (logged command by.outcome).accepted ≡ d ∷ [] = sym (ap (λ (l : Log). l.accepted) (reported_log old new command answer by)) ∙ is in
     accepted_where old.holder.store.broken old.holder command d by.outcome by.submission.results one
 
 -- A command is answered `same` only if it is judged the same.
@@ -238,12 +237,12 @@ reports_same : (outcome : Outcome) → answers.Reply (reply_to outcome) ≡ answ
 reports_same Same is = refl
 reports_same outcome is = absurd cc
 
-pub acts_same : (old new : OnDisk Ledger) (command : Option Command) (May : Answer → Type 0) (answer : Answer) (more : Log)
-    → Acts old command May answer more new
+pub acts_same : (old new : OnDisk Ledger) (command : Option Command) (May : Answer → Type 0) (answer : Answer)
+    → Acts old command May answer new
     → answer ≡ answers.Reply replies.Same
     → IfSome command (λ c. judge old.holder.tally c ≡ verdicts.Same)
-acts_same old new None May answer more acts is = tt
-acts_same old new (Some command) May answer more (by, logs) is =
+acts_same old new None May answer acts is = tt
+acts_same old new (Some command) May answer by is =
     let same : by.outcome ≡ Same = reports_same by.outcome (sym by.reply ∙ is) in
     same_where old.holder.store.broken old.holder command
     (subst (λ (outcome : Outcome). MayResult old.holder command outcome) same by.submission.results)

@@ -1,5 +1,5 @@
 -- How an office begins on the disk on which it was opened.
-use Rattle.std.proofs.Common.{◌≡◌, ℕ, List, Result, Ok, Err, IfErr, IsTrue, sym, ap, subst, arith}
+use Rattle.std.proofs.Common.{◌≡◌, ℕ, List, Result, Ok, Err, IfErr, ap, subst, arith}
 use Rattle.zh_districts.specs.Canton.{Canton}
 use Rattle.zh_office.specs.DeskBatches.{no_batches}
 use Rattle.zh_disk.specs.History.{History, HasRisen}
@@ -15,7 +15,7 @@ use Rattle.zh_ledger.specs.Submissions.{OnDisk}
 use Rattle.zh_ledger.specs.declared.opening.OpenFault.{OpenFault}
 use Rattle.zh_office.specs.Office.{Office}
 use Rattle.zh_office.proofs.CallerLemmas.{risen_since}
-use Rattle.zh_program.specs.Opened.{IsFrom, IsOfDevice, IsStart, IsThis, LeavesDisk}
+use Rattle.zh_program.specs.Opened.{IsOfDevice, IsStart, LeavesDisk}
 use Rattle.zh_program.specs.declared.fault.TaskFault.{TaskFault}
 use Rattle.zh_program.specs.declared.fault.TaskFault.TheVariants as faults
 
@@ -35,15 +35,6 @@ starts canton first start opening held = record {
       let opens = opening.call.did h in
       let ledger = start.holder.ledger in
       knows_images canton first.trail start.history.trail ledger opens ledger.tally opening.ready.set_up (held_by first.trail.now.bytes ledger.tally opens.opened.stood x j clean);
-}
-
--- Work that begins with this start is from it, if a disk that is honest at the end was honest then.
-pub begun_at : (canton : Canton) (first last : History) (start : OnDisk Office) → IsStart canton first start → (IsTrue last.honest → IsTrue start.history.honest)
-    → (s e : OnDisk Office) → IsThis start last s e → IsFrom canton first last s e
-begun_at canton first last start begun honest s e this = record {
-  begun = subst (IsStart canton first) (sym this.0) begun;
-  ended = this.1;
-  honest = λ h. subst (λ (o : OnDisk Office). IsTrue o.history.honest) (sym this.0) (honest h);
 }
 
 -- What a task leaves of a disk after opening an office on it, it leaves of the disk from before the opening.

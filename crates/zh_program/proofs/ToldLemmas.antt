@@ -13,13 +13,12 @@ use Rattle.zh_returns.specs.Tally.{Tally}
 use Rattle.zh_ledger.specs.Images.{HasSome}
 use Rattle.zh_ledger.specs.Night.{StopsWithin}
 use Rattle.zh_office.specs.Text.{ended_lines}
-use Rattle.zh_program.specs.Exchanges.{Exchange, log_of, text_of}
+use Rattle.zh_office.specs.Exchanges.{Exchange, line_in, log_of, text_of}
 use Rattle.zh_program.specs.Headline.{Headline}
 use Rattle.zh_program.specs.Order.{AnswersBeforeReading, AreNext, Conversation, KeepsWhatIsTold}
 use Rattle.zh_program.specs.Stopped.{Always}
 use Rattle.zh_program.proofs.ExcludeLemmas.{HoldsAfter, always_at, same_length}
 use Rattle.zh_program.proofs.FrontLemmas.{logs_more, one_more, two_parts}
-use Rattle.zh_program.proofs.RunLemmas.{line_in_exchange}
 
 -- Consecutive times are in order.
 next_by : (P : Frame → Frame → Type 0) (first : Frame) (film : List Frame) (now : Frame) → InOrder P first film now
@@ -38,6 +37,10 @@ next_by P first (f ∷ film) now order a b [] older is =
 next_by P first (f ∷ film) now order a b (n ∷ more) older is =
     let tail : f ∷ (film ++ first ∷ []) ≡ more ++ b ∷ (a ∷ older) = cc in
     next_by P first film f order.1 a b more older tail
+
+-- The bytes of an exchange's line.
+abbrev line_in_exchange : Exchange → Option (List ℕ)
+line_in_exchange x = line_in x.given
 
 -- What is appended to known bytes, or taken from them.
 appended : (before more other : List ℕ) (old new : Option (List ℕ)) → old ≡ Some before → new ≡ Some (before ++ more)

@@ -1,30 +1,32 @@
 -- What an office leaves of its disk when it is given one thing after another: what holds of each exchange given those before
 -- it, as long as the office is in the state that they lead to.
-use Rattle.std.proofs.Common.{◌≡◌, ◌≢◌, ℕ, List, [], ◌∷◌, ◌++◌, length, refl, sym, ◌∙◌, ap, subst, append_assoc, IsTrue, Option, None, Result, Ok, Err}
+use Rattle.std.proofs.Common.{◌≡◌, ◌≢◌, ℕ, Bool, true, false, List, [], ◌∷◌, ◌++◌, length, refl, sym, ◌∙◌, ap, subst, append_assoc, IsTrue, Option, Some, None, Result, Ok, Err}
 use Rattle.std.proofs.lemmas.List.{append-nil}
 use Rattle.std.specs.Prelude.{IfSome}
 use Rattle.zh_disk.specs.Disk.{Trail, IsImage}
+use Rattle.zh_districts.specs.Canton.{Canton}
 use Rattle.zh_returns.specs.declared.command.Command.{Command}
+use Rattle.zh_returns.specs.declared.row.Row.{Row}
 use Rattle.zh_returns.specs.Judgement.{judge}
 use Rattle.zh_returns.specs.Tally.{Tally}
 use Rattle.zh_returns.specs.declared.judgement.Verdict.TheVariants as verdicts
-use Rattle.zh_office.specs.DeskBatches.{Held, no_batches}
-use Rattle.zh_commands.specs.declared.lines.Line.{Line}
-use Rattle.zh_commands.specs.declared.lines.LineFault.{LineFault}
 use Rattle.zh_commands.specs.declared.replies.Reply.TheVariants.{Stored, Same}
+use Rattle.zh_csv.specs.Load.{LoadsFrom}
+use Rattle.zh_csv.specs.declared.batch_reader.LoadFault.{LoadFault}
 use Rattle.zh_totals.specs.Counting.{totals_of}
 use Rattle.zh_ledger.specs.Images.{HasSome}
-use Rattle.zh_ledger.specs.Submissions.{Log, OnDisk, followed_by}
-use Rattle.zh_office.specs.Requests.{Acts}
+use Rattle.zh_ledger.specs.Submissions.{Log, OnDisk}
+use Rattle.zh_office.specs.DeskBatches.{Held, no_batches}
 use Rattle.zh_office.specs.declared.answer.Answer.{Answer}
 use Rattle.zh_office.specs.declared.answer.Answer.TheVariants as answers
-use Rattle.zh_office.specs.Office.{Office, MayAnswer, batches_after, command_read}
-use Rattle.zh_office.specs.Runs.{Turn, its_ledger}
-use Rattle.zh_program.specs.Exchanges.{Exchange, Given, IsReadRight, command_given, count_by, disk_by, held_by, held_then, log_by, log_of}
-use Rattle.zh_program.specs.Exchanges.Given.{line}
+use Rattle.zh_office.specs.Exchanges.{Exchange, Given, IsReadRight, command_given, count_by, disk_by, held_by, held_then, log_by, log_of}
+use Rattle.zh_office.specs.Exchanges.Given.{line, text}
+use Rattle.zh_office.specs.Load.{command_loaded}
+use Rattle.zh_office.specs.Office.{MayAnswer, Office, command_taken, its_ledger}
+use Rattle.zh_office.specs.Runs.{IsReadAs, Turn}
+use Rattle.zh_office.proofs.CallerLemmas.{disk-append, held_more, log_more}
 use Rattle.zh_program.specs.Stopped.{Always}
 use Rattle.zh_program.proofs.AnsweredLemmas.{AllStoreNone, IsFair, acts_fair, acts_stored, may_fair}
-use Rattle.zh_program.proofs.ExchangeLemmas.{acts_log, disk_more, held_more, log_more}
 use Rattle.zh_program.proofs.SoundLemmas.{GoesOnBy, IsSoundBy, acts_accepted, acts_goes_on, acts_same}
 
 -- Between two exchanges, an image has what is acknowledged by then.
@@ -57,89 +59,80 @@ pub record IsAt (tally : Tally) (opened : Trail) (done : List Exchange) (o : OnD
 pub at_rest : (tally : Tally) (opened : Trail) (done : List Exchange) (o : OnDisk Office) → IsAt tally opened done o → AtRest tally opened done
 at_rest tally opened done o at c image = at.sound.each c (subst (λ (t : Trail). IsImage t.now c) at.disk image)
 
--- Something is given and answered.
-module _ (tally : Tally) (opened : Trail) (done : List Exchange) (old new : OnDisk Office)
-    (given : Given) (command : Option Command) (May : Answer → Type 0) (answer : Answer) (more : Log)
-    (at : IsAt tally opened done old) (honest : IsTrue new.history.honest)
-    (acts : Acts (its_ledger old) command May answer more (its_ledger new)) (fair : AllStoreNone (totals_of old.holder.ledger.tally) May)
-    (read : IsReadRight tally.canton given) (gives : command ≡ command_given old.holder.held given)
-    (held : new.holder.held ≡ held_then old.holder.held given answer) where
-  abbrev x : Exchange
-  x = record { given = given; command = command; answer = answer; count = new.holder.ledger.tally; disk = new.history.trail }
+-- A line can be read at any time, a text by an office that met no fault of the device and has this set-up.
+abbrev pub CanRead : Canton → Office → Given → Type 0
+CanRead canton office (line bytes reading) = Unit {0}
+CanRead canton office (text bytes loaded) = (office.ledger.store.broken ≡ false) × (office.ledger.tally.canton ≡ canton)
 
-  goes_on : GoesOnBy tally (log_of done) more (its_ledger old) (its_ledger new)
-  goes_on = acts_goes_on tally (log_of done) (its_ledger old) (its_ledger new) command May answer more at.sound honest acts
+pub can_read : (canton : Canton) (office : Office) (given : Given) → office.ledger.store.broken ≡ false → office.ledger.tally.canton ≡ canton → CanRead canton office given
+can_read canton office (line bytes reading) whole own = tt
+can_read canton office (text bytes loaded) whole own = (whole, own)
 
-  log_is : log_by command answer ≡ more
-  log_is = acts_log (its_ledger old) (its_ledger new) command May answer more acts
+text_right : (canton : Canton) (bytes : Option (List ℕ)) (failed : Bool) (loaded : Result (List Row) LoadFault)
+    → LoadsFrom canton bytes failed loaded
+    → IsReadRight canton (text bytes loaded)
+text_right canton bytes failed (Err fault) by = tt
+text_right canton None failed (Ok rows) by = (by.rows, tt)
+text_right canton (Some known) failed (Ok rows) by = (by.rows, (by.known known refl).0)
 
-  logs : log_of (done ++ x ∷ []) ≡ followed_by (log_of done) more
-  logs = log_more done x ∙ ap (followed_by (log_of done)) log_is
+text_gives : (broken : Bool) (held : Held) (bytes : Option (List ℕ)) (loaded : Result (List Row) LoadFault) → broken ≡ false
+    → command_loaded broken loaded ≡ command_given held (text bytes loaded)
+text_gives true held bytes loaded is = absurd cc
+text_gives false held bytes (Ok rows) is = refl
+text_gives false held bytes (Err fault) is = refl
+
+-- What is given is read by the rules and gives the command that it says.
+read_right : (canton : Canton) (office : Office) (given : Given) → CanRead canton office given → IsReadAs office given → IsReadRight canton given
+read_right canton office (line bytes reading) can read = read
+read_right canton office (text bytes loaded) can read =
+    let loads = read can.0 in text_right canton bytes loads.0 loaded (subst (λ (c : Canton). LoadsFrom c bytes loads.0 loaded) can.1 loads.1)
+
+gives_right : (canton : Canton) (office : Office) (given : Given) → CanRead canton office given → command_taken office given ≡ command_given office.held given
+gives_right canton office (line bytes reading) can = refl
+gives_right canton office (text bytes loaded) can = text_gives office.ledger.store.broken office.held bytes loaded can.0
+
+-- An office takes its turn.
+module _ (tally : Tally) (opened : Trail) (done : List Exchange) (old new : OnDisk Office) (x : Exchange)
+    (at : IsAt tally opened done old) (honest : IsTrue new.history.honest) (turn : Turn old x new) (can : CanRead tally.canton old.holder x.given) where
+  abbrev May : Answer → Type 0
+  May = MayAnswer old.holder x.given
+
+  fair : AllStoreNone (totals_of old.holder.ledger.tally) May
+  fair = may_fair old.holder x.given
+
+  goes_on : GoesOnBy tally (log_of done) (log_by x.command x.answer) (its_ledger old) (its_ledger new)
+  goes_on = acts_goes_on tally (log_of done) (its_ledger old) (its_ledger new) x.command May x.answer at.sound honest turn.acts
 
   one_then : IsAt tally opened (done ++ x ∷ []) new
   one_then = record {
-    disk = disk_more opened done x;
-    held = held_more no_batches done x ∙ ap (λ (h : Held). held_then h given answer) at.held ∙ sym held;
-    sound = subst (λ (l : Log). IsSoundBy tally l (its_ledger new)) (sym logs) goes_on.sound;
+    disk = disk-append opened done (x ∷ []) ∙ turn.disk;
+    held = held_more no_batches done x ∙ ap (λ (h : Held). held_then h x.given x.answer) at.held ∙ sym turn.held;
+    sound = subst (λ (l : Log). IsSoundBy tally l (its_ledger new)) (sym (log_more done x)) goes_on.sound;
   }
 
   one_is : IsOne tally opened done x
   one_is = record {
-    read = read;
-    command = gives ∙ ap (λ (h : Held). command_given h given) (sym at.held);
+    read = read_right tally.canton old.holder x.given can turn.reads;
+    command = turn.command ∙ gives_right tally.canton old.holder x.given can ∙ ap (λ (h : Held). command_given h x.given) (sym at.held);
     accepted = λ d is.
-        let one : more.accepted ≡ d ∷ [] = sym (ap (λ (l : Log). l.accepted) log_is) ∙ is in
-        let by = acts_accepted (its_ledger old) (its_ledger new) command May answer more d acts one in
+        let by = acts_accepted (its_ledger old) (its_ledger new) x.command May x.answer d turn.acts is in
         (subst (λ (t : Tally). judge t d ≡ verdicts.Accept) at.sound.count by.0, (at.sound.whole by.1).all);
-    counted = one_then.sound.count;
-    stored = acts_stored (its_ledger old) (its_ledger new) command May answer more fair acts;
+    counted = turn.count ∙ one_then.sound.count;
+    stored = acts_stored (its_ledger old) (its_ledger new) x.command May x.answer fair turn.acts;
     same = λ is.
-        let judged = acts_same (its_ledger old) (its_ledger new) command May answer more acts is in
-        subst (λ (t : Tally). IfSome command (λ c. judge t c ≡ verdicts.Same)) at.sound.count judged;
+        let judged = acts_same (its_ledger old) (its_ledger new) x.command May x.answer turn.acts is in
+        subst (λ (t : Tally). IfSome x.command (λ c. judge t c ≡ verdicts.Same)) at.sound.count judged;
     stopped =
-        subst (λ (t : Trail). Always (HasSome tally (log_of (done ++ x ∷ [])).accepted (log_of done).acknowledged) t new.history.trail) (sym at.disk)
-        (subst (λ (l : Log). Always (HasSome tally l.accepted (log_of done).acknowledged) old.history.trail new.history.trail) (sym logs) goes_on.moments);
-    fair = acts_fair (its_ledger old) (its_ledger new) command May answer more fair acts;
+        subst (λ (t : Trail). Always (HasSome tally (log_of (done ++ x ∷ [])).accepted (log_of done).acknowledged) t x.disk) (sym at.disk)
+        (subst (Always (HasSome tally (log_of (done ++ x ∷ [])).accepted (log_of done).acknowledged) old.history.trail) (sym turn.disk)
+        (subst (λ (l : Log). Always (HasSome tally l.accepted (log_of done).acknowledged) old.history.trail new.history.trail) (sym (log_more done x)) goes_on.moments));
+    fair = subst (λ (t : Tally). IsFair (totals_of t) x.answer) (sym turn.count)
+        (acts_fair (its_ledger old) (its_ledger new) x.command May x.answer fair turn.acts);
   }
 
-  -- It is one exchange more and leads to the next state.
+  -- Its exchange is one more and leads to the next state.
   pub one_more : IsOne tally opened done x × IsAt tally opened (done ++ x ∷ []) new
   one_more = (one_is, one_then)
-
--- The exchange of a line.
-abbrev pub exchange_of : (old : OnDisk Office) (bytes : List ℕ) (answer : Answer) (new : OnDisk Office) → Turn old bytes answer new → Exchange
-exchange_of old bytes answer new turn = record {
-  given = line bytes turn.reading;
-  command = command_read old.holder turn.reading;
-  answer = answer;
-  count = new.holder.ledger.tally;
-  disk = new.history.trail;
-}
-
-line_gives : (office : Office) (bytes : List ℕ) (reading : Result Line LineFault)
-    → command_read office reading ≡ command_given office.held (line bytes reading)
-line_gives office bytes (Ok read) = refl
-line_gives office bytes (Err fault) = refl
-
-line_held : (held : Held) (bytes : List ℕ) (reading : Result Line LineFault) (answer : Answer)
-    → batches_after held reading answer ≡ held_then held (line bytes reading) answer
-line_held held bytes (Ok read) answer = refl
-line_held held bytes (Err fault) answer = refl
-
--- A line is one exchange more.
-pub turn_more : (tally : Tally) (opened : Trail) (done : List Exchange) (old : OnDisk Office) (bytes : List ℕ) (answer : Answer) (new : OnDisk Office)
-    (turn : Turn old bytes answer new)
-    → IsTrue new.history.honest
-    → IsAt tally opened done old
-    → IsOne tally opened done (exchange_of old bytes answer new turn) × IsAt tally opened (done ++ exchange_of old bytes answer new turn ∷ []) new
-turn_more tally opened done old bytes answer new turn honest at =
-    let given = line bytes turn.reading in
-    let command = command_read old.holder turn.reading in
-    let May : Answer → Type 0 = MayAnswer old.holder turn.reading in
-    let fair = may_fair old.holder turn.reading in
-    let gives = line_gives old.holder bytes turn.reading in
-    let held = turn.held ∙ line_held old.holder.held bytes turn.reading answer in
-    one_more tally opened done old new given command May answer turn.log at honest turn.acts fair turn.reads gives held
 
 module _ (tally : Tally) (opened : Trail) where
   -- What holds of each exchange in its turn holds wherever it is in the list.

@@ -1,5 +1,5 @@
--- Which exchanges a task is due, and what it writes of them.
-use Rattle.std.specs.Prelude.{◌≡◌, ◌≢◌, ◌⊎◌, ◌<◌, ℕ, List, [], ◌∷◌, ◌++◌, flat_map, length, map, take, Option, Some, Result}
+-- Which exchanges a task has, and what it writes of them.
+use Rattle.std.specs.Prelude.{◌≡◌, ◌≢◌, ◌⊎◌, ℕ, List, [], ◌∷◌, ◌++◌, flat_map, map, Option, Some, Result}
 use Rattle.std.specs.Io.KnownBytes.{Appends, Consumes, IsAtEnd, Keeps}
 use Rattle.zh_disk.specs.Disk.{Trail}
 use Rattle.zh_film.specs.Frames.{Frame, frames}
@@ -10,18 +10,9 @@ use Rattle.zh_office.specs.Text.{ended_lines, lines_of}
 use Rattle.zh_arguments.specs.declared.arguments.Task.{Task}
 use Rattle.zh_arguments.specs.declared.arguments.Task.TheVariants.{Run, Load}
 use Rattle.zh_program.specs.World.{FilmedOf, Known, WorldOf}
-use Rattle.zh_program.specs.Exchanges.{Exchange, line_in, text_of}
-use Rattle.zh_program.specs.Exchanges.Given.{text}
+use Rattle.zh_office.specs.Exchanges.{Exchange, IsCutShort, line_in, text_of}
+use Rattle.zh_office.specs.Exchanges.Given.{text}
 use Rattle.zh_program.specs.Order.{Conversation}
-
--- Only a part of the answer to the last exchange is written. The answers before it are written whole.
-pub record IsCutShort (talk : Conversation) (exchanges : List Exchange) : Type 0 where
-  pub whole : List Exchange
-  pub last : Exchange
-  pub all : exchanges ≡ whole ++ last ∷ []
-  pub front : ℕ
-  pub part : front < length (text_of last)
-  pub written : Appends talk.first.written talk.last.written (flat_map text_of whole ++ take front (text_of last))
 
 -- The due lines of the input are answered in order and the answers are written. All lines are due if the input was read to its
 -- end; otherwise only the complete ones are, and the status is not 0. If a write failed, the answers break off and the status
@@ -34,7 +25,7 @@ pub record AnswerLines (talk : Conversation) (status : ℕ) (exchanges : List Ex
   pub others : List (List ℕ)
   pub answered : map Some lines ≡ map (λ x. line_in x.given) exchanges ++ map Some others
   pub written : ((others ≡ []) × Appends talk.first.written talk.last.written (flat_map text_of exchanges))
-      ⊎ ((status ≢ 0) × IsCutShort talk exchanges)
+      ⊎ ((status ≢ 0) × IsCutShort talk.first.written talk.last.written exchanges)
 
 -- The text of a file, whose bytes may be known, is loaded as the only exchange and the reply is written. With a status other
 -- than 0, the reply may be written in part, or there may be no exchange, because the file gave no text.
@@ -44,7 +35,7 @@ pub record AnswerText (known : Option (List ℕ)) (talk : Conversation) (status 
   pub loaded : ((exchanges ≡ []) × (status ≢ 0))
       ⊎ ((x : Exchange) × (loaded : Result (List Row) LoadFault) × (exchanges ≡ x ∷ []) × (x.given ≡ text bytes loaded))
   pub written : Appends talk.first.written talk.last.written (flat_map text_of exchanges)
-      ⊎ ((status ≢ 0) × IsCutShort talk exchanges)
+      ⊎ ((status ≢ 0) × IsCutShort talk.first.written talk.last.written exchanges)
 
 -- The exchanges of a task in this conversation, where the texts at paths may be known. Only a run and a load have exchanges.
 abbrev pub AreOfTask : (List ℕ → Option (List ℕ)) → Task → Conversation → ℕ → List Exchange → Type 0

@@ -22,7 +22,6 @@ pub mod Version
 pub mod Paths
 pub mod Reports
 pub mod Program
-pub mod Exchanges
 pub mod Stopped
 pub mod Order
 pub mod Due

@@ -30,10 +30,6 @@ pub record IsFrom (canton : Canton) (first last : History) (start end : OnDisk O
   pub ended : end.history ≡ last
   pub honest : IsTrue last.honest → IsTrue start.history.honest
 
--- The office at the start is this one, and at the end its disk has this history.
-abbrev pub IsThis : OnDisk Office → History → OnDisk Office → OnDisk Office → Type 0
-IsThis first last start end = (start ≡ first) × (end.history ≡ last)
-
 -- An office was opened, and nothing else was done to its disk.
 abbrev pub IsOnlyOpened : (OnDisk Office → OnDisk Office → Type 0) → Type 0
 IsOnlyOpened Spans = (start : OnDisk Office) × Spans start start

@@ -6,7 +6,7 @@ use Rattle.zh_film.specs.declared.kind.FrameKind.TheVariants.{Asks}
 use Rattle.zh_returns.specs.Tally.{Tally}
 use Rattle.zh_ledger.specs.Images.{HasSome}
 use Rattle.zh_office.specs.Text.{ended_lines}
-use Rattle.zh_program.specs.Exchanges.{Exchange, line_in, log_of, text_of}
+use Rattle.zh_office.specs.Exchanges.{Exchange, line_in, log_of, text_of}
 use Rattle.zh_program.specs.Stopped.{Always}
 
 -- A conversation: at the beginning, at each time that a film shows (latest first), and at the end, the bytes left in the input,
@@ -27,7 +27,7 @@ AreNext talk a b = (newer : List Frame) × (older : List Frame) × (talk.last �
 -- From one time to the next: at each moment of the disk, each image has every command that the output at the later time
 -- acknowledges, and at most one accepted command that the output at the earlier time does not answer.
 pub record KeepsWhatIsTold (tally : Tally) (exchanges : List Exchange) (first earlier later : Frame) : Type 0 where
-  -- The number of exchanges whose answers are written whole by the earlier time. No other answer is.
+  -- The number of exchanges whose answers are written by the earlier time, in full. Nothing else is written by then.
   pub replied : ℕ
   pub answered : Appends first.written earlier.written (flat_map text_of (take replied exchanges))
   -- By the later time, a prefix of the answers to this many exchanges is written: at most one exchange more than before.

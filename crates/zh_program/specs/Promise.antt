@@ -14,13 +14,13 @@ use Rattle.zh_arguments.specs.declared.arguments.Task.TheVariants.{Format}
 use Rattle.zh_program.specs.Rehearse.{rehearsal_shown}
 use Rattle.zh_program.specs.World.{FilmedOf, Known, WorldOf}
 use Rattle.zh_program.specs.Due.{AnswerLines, AreOfTask, conversation, talk_of}
-use Rattle.zh_program.specs.Exchanges.{Exchange}
+use Rattle.zh_office.specs.Exchanges.{Exchange}
 use Rattle.zh_program.specs.Headline.{Headline}
 use Rattle.zh_program.specs.Order.{AnswersBeforeReading, Throughout}
 use Rattle.zh_program.specs.Stopped.{MakesEmpty}
 
--- What the program has done when it ends, that is returns, and hands over this disk and the film of its task. A run that is
--- stopped did a prefix of it.
+-- What the program has done when it returns and hands over this disk and the film of its task. A run that is stopped has done a
+-- prefix of it.
 pub record Promise (of : Known) (arguments : List (List ℕ)) (old new : WorldOf of) (status : ℕ)
     (used : FilmedOf of) : Type 0 where
   pub task : Task

@@ -14,7 +14,7 @@ use Rattle.zh_ledger.specs.Submissions.{OnDisk}
 use Rattle.zh_office.specs.Office.{Office}
 use Rattle.zh_program.specs.World.{EndOf, Known, WorldOf}
 use Rattle.zh_program.specs.Remarks.{BecameOf}
-use Rattle.zh_program.specs.Run.{Serves, Streams, UsesUpReads, streams_of}
+use Rattle.zh_program.specs.Run.{ServedBy, Streams, UsesUpReads, streams_of}
 use Rattle.zh_program.specs.declared.on_disk.Used.TheVariants.{Rehearsal}
 use Rattle.zh_program.specs.declared.fault.TaskFault.{TaskFault}
 use Rattle.zh_program.specs.declared.fault.TaskFault.TheVariants as faults
@@ -34,7 +34,7 @@ pub record IsRehearsal (start end : OnDisk Office) : Type 0 where
 -- and in memory: it is not in use or damaged, it has no other set-up, and it fails only if memory is refused.
 abbrev pub Rehearsed : Type 0 → Streams → Streams → Result (Unit {0}) TaskFault → Type 0
 Rehearsed nothing old new (Err faults.Memory) = nothing
-Rehearsed nothing old new result = Serves old new IsRehearsal result
+Rehearsed nothing old new result = ServedBy old new IsRehearsal result
 
 -- What is known of a disk in memory.
 abbrev pub in_memory : Disks MemoryDisk
@@ -53,4 +53,4 @@ pub record Rehearses (of : Known) (old new : WorldOf of)
   pub said : BecameOf new.remark (of.errors.contents old.faults) (of.errors.contents new.faults) announcement
   pub served : Rehearsed ((new.input ≡ old.input) × (new.output ≡ old.output) × (scenes film ≡ []))
       (streams_of of old []) (streams_of of new (rehearsal_shown of film)) ended.result
-  pub reads : UsesUpReads (rehearsal_shown of film) (of.readers.remaining old.input) (of.readers.remaining new.input) (2 ^ 32) ended.result
+  pub reads : UsesUpReads ended.result (rehearsal_shown of film) (of.readers.remaining old.input) (of.readers.remaining new.input) (2 ^ 32)

@@ -24,7 +24,7 @@ use Rattle.zh_program.specs.declared.shown.Shown.TheVariants.{Advised}
 abbrev pub stated : RightSheet → MarkedSheet
 stated right = record {
   sheet = right.sheet;
-  mark = record { is_final = right.is_final; accepted = right.accepted; source = sources.Sheet };
+  mark = record { is_final = right.head.is_final; accepted = right.head.accepted; source = sources.Sheet };
 }
 
 -- The seats of this sheet, and a remark on what no check can verify about them.

@@ -24,7 +24,7 @@ ghost use Rattle.zh_ledger.specs.Stands.{Holds, HoldsFramed};
 ghost use Rattle.zh_ledger.specs.declared.opening.OpenFault.{OpenFault};
 ghost use Rattle.zh_ledger.specs.declared.opening.OpenFault.TheVariants as faults;
 ghost use Rattle.zh_office.specs.declared.answer.Answer.TheVariants as answers;
-ghost use Rattle.zh_program.specs.Exchanges.{Exchange, count_by, disk_by, line_in, log_of, text_of};
+ghost use Rattle.zh_office.specs.Exchanges.{Exchange, count_by, disk_by, line_in, log_of, text_of};
 ghost use Rattle.zh_office.specs.Text.{ended_lines};
 ghost use Rattle.zh_program.specs.World.{known};
 ghost use Rattle.zh_program.specs.declared.on_disk.Filmed.{Filmed};
@@ -39,8 +39,7 @@ ghost use Rattle.zh_check.specs.Verdicts.{IsRight};
 ghost use Rattle.zh_check.specs.declared.checked.RightSheet.{RightSheet};
 ghost use Rattle.zh_disk.specs.History.{History};
 ghost use Rattle.zh_ledger.specs.Submissions.{IsLogged, Log, OnDisk};
-ghost use Rattle.zh_office.specs.Office.{Office};
-ghost use Rattle.zh_office.specs.Runs.{its_ledger};
+ghost use Rattle.zh_office.specs.Office.{Office, its_ledger};
 ghost use Rattle.zh_program.specs.Opened.{IsFrom, KeepsAll};
 ghost use Rattle.zh_totals.specs.Totals.{VoteTotals};
 
@@ -131,7 +130,8 @@ pub fn opening_excludes<F: Files>()
         → Holds tally bytes → F.left new c → ¬ F.left old c → ¬ Holds tally c → ⊥ }
 {}
 
-/// Opening an image that opens to a count gives that count, or is refused for memory or by the device.
+/// Opening an image that opens to a count, with the set-up of that count, gives that count, or is refused for memory or by
+/// the device.
 pub fn reopenings()
     ensures ends { (count : Tally) (result : Result Ledger OpenFault) (old new : Trail) → OpensTo count old.now.bytes
         → Opens count.canton result old new
@@ -151,8 +151,7 @@ pub fn kept_commands()
         → IsCanton canton → IsCanton tally.canton → Holds tally first.trail.now.bytes → KeepsAll tally log first.trail last.trail }
 {}
 
-/// A check reads at most one byte more than the longest sheet has. The bytes read are a right sheet exactly if the whole file
-/// is.
+/// A check reads at most 280,065 bytes, more than any sheet has. The bytes read are a right sheet exactly if the whole file is.
 pub fn whole_file_is_checked()
     ensures { (canton : Canton) (held : Option VoteTotals) (text : List ℕ) (right : RightSheet)
         → IsRight canton held (take 280065 text) right ↔ IsRight canton held text right }

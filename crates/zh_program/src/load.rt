@@ -6,12 +6,11 @@ ghost use Rattle.std.specs.Io.KnownBytes.{Appends, Keeps};
 ghost use Rattle.zh_csv.specs.Noted.{has_failed, inner_reader};
 ghost use Rattle.zh_film.specs.Frames.{frames};
 ghost use Rattle.zh_film.specs.Scenes.{scenes};
-ghost use Rattle.zh_ledger.specs.Submissions.{on_disk};
 ghost use Rattle.zh_program.specs.Load.{HasBegun, HasLoaded, IsUnreadable, LoadsText, WritesPart, given_text, printed};
-ghost use Rattle.zh_program.specs.Opened.{IsThis, LeavesDisk};
-ghost use Rattle.zh_program.specs.Run.{streams};
+ghost use Rattle.zh_program.specs.Opened.{LeavesDisk};
 ghost use Rattle.zh_program.specs.World.{AreCalls, IsMetAt, known};
 ghost use Rattle.zh_office.specs.Judged.{Judges};
+ghost use Rattle.zh_office.specs.Served.{session};
 ghost use Rattle.zh_program.specs.DryRun.{JudgedAs, JudgesText, MakesDryRun};
 
 use crate::fault::TaskFault;
@@ -69,10 +68,9 @@ fn load_text<I: Read, R: Read, O: Write, D: Disk>(
     requires whole { office.old.ledger.store.broken ≡ false }
     requires film { scenes film.old ≡ [] }
     ensures disk { LeavesDisk (D.history disk.old) (D.history disk.new) result }
-    ensures loaded { LoadsText (given_text (R.remaining (inner_reader reader.old)) (has_failed reader.new))
-        (streams (I.remaining input.now) (O.contents out.old) (frames I.Read O.Write D.Disk film.old))
-        (streams (I.remaining input.now) (O.contents out.new) (frames I.Read O.Write D.Disk film.new))
-        (IsThis (on_disk office.old (D.history disk.old)) (D.history disk.new)) result }
+    ensures loaded { LoadsText (given_text (R.remaining (inner_reader reader.old)) (has_failed reader.new)) result
+        (session (O.contents out.old) office.old (D.history disk.old) (I.remaining input.now) [])
+        (session (O.contents out.new) office.new (D.history disk.new) (I.remaining input.now) (frames I.Read O.Write D.Disk film.new)) }
 {
     film.note(input, out, disk);
     let reply = office.load(disk, reader);
@@ -129,7 +127,7 @@ impl From<JudgementFault> for TaskFault {
     }
 }
 
-/// Writes what a load of a text would do with an office's count. The fault is `Refused` if the forecast refuses a row.
+/// Writes what a load of a text would do with an office's count. The fault is `Refused` if a record would be refused.
 fn judge_text<R: Read, O: Write>(
     alloc: Global,
     office: &Office<'_>,

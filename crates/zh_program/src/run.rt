@@ -3,9 +3,9 @@
 ghost use Rattle.std.specs.Prelude.{◌≡◌, ◌^◌, [], false};
 ghost use Rattle.zh_film.specs.Frames.{frames};
 ghost use Rattle.zh_film.specs.Scenes.{scenes};
-ghost use Rattle.zh_ledger.specs.Submissions.{on_disk};
-ghost use Rattle.zh_program.specs.Opened.{IsThis, LeavesDisk, WithOffice};
-ghost use Rattle.zh_program.specs.Run.{IsReadWithin, Ran, Serves, streams, UsesUpReads};
+ghost use Rattle.zh_office.specs.Served.{session};
+ghost use Rattle.zh_program.specs.Opened.{LeavesDisk};
+ghost use Rattle.zh_program.specs.Run.{HasServed, Ran, RunsWithin, streams, UsesUpReads};
 ghost use Rattle.zh_program.specs.World.{known};
 ghost use Rattle.zh_program.specs.Rehearse.{Rehearsed, Rehearses, announcement};
 ghost use Rattle.zh_program.specs.Remarks.{BecameOf};
@@ -30,27 +30,6 @@ fn most_reads() -> u64
     1 << 32
 }
 
-/// Opens the office on a disk and serves the lines of the input.
-pub(crate) fn serve_on<I: Read, O: Write, D: Disk>(
-    alloc: Global,
-    setup: &Setup,
-    disk: &mut D,
-    input: &mut I,
-    out: &mut O,
-    film: &mut Film<I, O, D>,
-) -> Result<(), TaskFault>
-    requires { scenes film.old ≡ [] }
-    ensures served { WithOffice setup.now (D.history disk.old) (D.history disk.new)
-        ((input.new ≡ input.old) × (out.new ≡ out.old) × (scenes film.new ≡ []))
-        (Serves (streams (I.remaining input.old) (O.contents out.old) (frames I.Read O.Write D.Disk film.old))
-        (streams (I.remaining input.new) (O.contents out.new) (frames I.Read O.Write D.Disk film.new))) result }
-    ensures reads { IsReadWithin (frames I.Read O.Write D.Disk film.new) (I.remaining input.old) (I.remaining input.new) (2 ^ 32) result }
-    ensures disk { LeavesDisk (D.history disk.old) (D.history disk.new) result }
-{
-    let mut office = Office::open(alloc, setup, disk)?;
-    serve_lines(&mut office, disk, input, out, film)
-}
-
 /// Serves the lines of the input with an open office. A failure of the device during the run is reported at the end.
 fn serve_lines<I: Read, O: Write, D: Disk>(
     office: &mut Office<'_>,
@@ -62,10 +41,10 @@ fn serve_lines<I: Read, O: Write, D: Disk>(
     requires whole { office.old.ledger.store.broken ≡ false }
     requires film { scenes film.old ≡ [] }
     ensures disk { LeavesDisk (D.history disk.old) (D.history disk.new) result }
-    ensures served { Serves (streams (I.remaining input.old) (O.contents out.old) (frames I.Read O.Write D.Disk film.old))
-        (streams (I.remaining input.new) (O.contents out.new) (frames I.Read O.Write D.Disk film.new))
-        (IsThis (on_disk office.old (D.history disk.old)) (D.history disk.new)) result }
-    ensures reads { IsReadWithin (frames I.Read O.Write D.Disk film.new) (I.remaining input.old) (I.remaining input.new) (2 ^ 32) result }
+    ensures served { HasServed result
+        (session (O.contents out.old) office.old (D.history disk.old) (I.remaining input.old) [])
+        (session (O.contents out.new) office.new (D.history disk.new) (I.remaining input.new) (frames I.Read O.Write D.Disk film.new)) }
+    ensures reads { RunsWithin result (frames I.Read O.Write D.Disk film.new) (I.remaining input.old) (I.remaining input.new) (2 ^ 32) }
 {
     office.serve(input, out, disk, film, most_reads())?;
     if office.faulted() {
@@ -85,9 +64,9 @@ pub(crate) fn run_from<I: Read, O: Write, E: Write, F: Files>(
     ensures { Ran (known I.Read O.Write E.Write F.Files F.Disk.Disk) setup.now
         (world.old, filmed.old.disk) (world.new, filmed.new) result }
 {
-    serve_on(
-        alloc,
-        setup,
+    let mut office = Office::open(alloc, setup, &mut filmed.disk)?;
+    serve_lines(
+        &mut office,
         &mut filmed.disk,
         &mut world.input,
         &mut world.output,
@@ -111,10 +90,10 @@ fn serve_rehearsal<I: Read, O: Write>(
 ) -> Result<(), TaskFault>
     requires { scenes film.old ≡ [] }
     ensures served { Rehearsed ((input.new ≡ input.old) × (out.new ≡ out.old) × (scenes film.new ≡ []))
-        (streams (I.remaining input.old) (O.contents out.old) (frames I.Read O.Write ⟦<MemoryDisk as Disk>⟧ film.old))
+        (streams (I.remaining input.old) (O.contents out.old) [])
         (streams (I.remaining input.new) (O.contents out.new) (frames I.Read O.Write ⟦<MemoryDisk as Disk>⟧ film.new)) result }
-    ensures reads { UsesUpReads (frames I.Read O.Write ⟦<MemoryDisk as Disk>⟧ film.new)
-        (I.remaining input.old) (I.remaining input.new) (2 ^ 32) result }
+    ensures reads { UsesUpReads result (frames I.Read O.Write ⟦<MemoryDisk as Disk>⟧ film.new)
+        (I.remaining input.old) (I.remaining input.new) (2 ^ 32) }
 {
     let setup = rehearsal(alloc)?;
     let mut disk = MemoryDisk::blank(alloc)?;

@@ -49,8 +49,8 @@ fn stated(right: RightSheet<'_>) -> MarkedSheet<'_>
     ensures { result ≡ stated right.entry }
 {
     let mark = Mark {
-        is_final: right.is_final,
-        accepted: right.accepted,
+        is_final: right.head.is_final,
+        accepted: right.head.accepted,
         source: Source::Sheet,
     };
     MarkedSheet {

@@ -1,35 +1,9 @@
 -- The flags of municipalities as the bits of a byte.
-use Rattle.std.proofs.Common.{◌≡◌, ℕ, zero, suc, ◌+◌, ◌*◌, ◌/◌, ◌^◌, ◌<◌, ◌≤◌, ◌%◌, ◌==◌, Bool, true, false, cond, List, [], ◌∷◌, length, get_or, take, refl, sym, ap, ◌∙◌, arith, add-one}
-use Rattle.std.proofs.Math.Nat.{pow-suc, pow-le-pow_right, mod-eq_of_lt, div-div-eq-div-mul, pow-succ'}
-use Rattle.std.proofs.lemmas.Nat.{pow_pos}
+use Rattle.std.proofs.Common.{◌≡◌, ℕ, zero, suc, ◌+◌, ◌*◌, ◌/◌, ◌^◌, ◌<◌, ◌%◌, ◌==◌, Bool, true, false, cond, List, [], ◌∷◌, length, get_or, refl, sym, ap, ◌∙◌, arith}
+use Rattle.std.proofs.Math.Nat.{pow-suc, div-div-eq-div-mul, pow-succ'}
 use Rattle.std.proofs.lemmas.Bool.Decides.{nat_tests}
 use Rattle.zh_districts.specs.Spelling.{mask_of}
-use Rattle.zh_districts.proofs.CallerLemmas.{mask_of-more, mask_of-lt}
 use Rattle.zh_returns.specs.Tables.{bit_of}
-
--- eight flags fit into a byte
-pub mask_of-fits : (xs : List Bool) → length xs ≤ 8 → mask_of xs < 2 ^ 8
-mask_of-fits xs short = let h = mask_of-lt xs in let up : 2 ^ length xs ≤ 2 ^ 8 = pow-le-pow_right {n = 2} (omega arith) short in omega arith
-
-bit_fits : (i : ℕ) → i < 8 → 1 * 2 ^ i % 256 ≡ 2 ^ i
-bit_fits i h =
-    let small : suc i ≤ 8 = omega arith in
-    let up : 2 ^ suc i ≤ 2 ^ 8 = pow-le-pow_right {n = 2} (omega arith) small in
-    let positive = pow_pos i in
-    let twice : 2 ^ suc i ≡ 2 * 2 ^ i = rw (pow-suc 2 i) (omega arith) in
-    mod-eq_of_lt {n = 1 * 2 ^ i} {m = 256} (omega arith) ∙ omega arith
-
--- the byte after a flag that is set
-pub mask_of-here : (xs : List Bool) (i m : ℕ) → i < length xs → length xs ≤ 8 → get_or xs i false ≡ true → m ≡ mask_of (take i xs) → m + 1 * 2 ^ i % 256 ≡ mask_of (take (i + 1) xs)
-mask_of-here xs i m within short here so_far =
-    let more = mask_of-more xs i false within in
-    rw (add-one i, more, here, bit_fits i (omega arith), so_far) refl
-
--- the byte after a flag that is not set
-pub mask_of-not_here : (xs : List Bool) (i m : ℕ) → i < length xs → get_or xs i false ≡ false → m ≡ mask_of (take i xs) → m ≡ mask_of (take (i + 1) xs)
-mask_of-not_here xs i m within here so_far =
-    let more = mask_of-more xs i false within in
-    rw (add-one i, more, here, so_far) (omega arith)
 
 -- the higher bits of a number are those of its half
 higher_bit : (n k : ℕ) → bit_of n (suc k) ≡ bit_of (n / 2) k

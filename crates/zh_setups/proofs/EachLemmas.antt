@@ -1,8 +1,9 @@
 -- Reading values one after another, as a loop does.
-use Rattle.std.proofs.Common.{◌≡◌, ◌==◌, ℕ, zero, suc, add-zero, add-one, ◌+◌, ◌<◌, List, [], ◌∷◌, ◌++◌, length, get_or, drop, map, Option}
+use Rattle.std.proofs.Common.{◌≡◌, ◌==◌, ℕ, ◌+◌, ◌<◌, List, [], ◌∷◌, ◌++◌, length, get_or, drop, map, Option}
 use Rattle.std.proofs.Common.{Some, None, Result, Ok, Err, option_map, refl, sym, ap, ◌∙◌, append_assoc, arith}
 use Rattle.std.proofs.lemmas.List.{drop_more}
-use Rattle.std.specs.List.{list_any, range_with_len}
+use Rattle.std.proofs.lemmas.List.FromFn.{map-range_with_len_more}
+use Rattle.std.specs.List.{list_any}
 use Rattle.toml.specs.View.{view}
 use Rattle.toml.specs.Data.{Data}
 use Rattle.toml.specs.declared.value.Value.{Value}
@@ -57,11 +58,6 @@ pub ends : {X : Type 0} (f : Data → Option X) (front : List X) (vs : List Valu
 ends f front vs i v fault total within v_is read so_far =
     fails_through fault (f (view v)) total (λ nothing. sym so_far ∙ rw (turn f vs i v within v_is, nothing) refl) read
 
-range_more : {X : Type 0} (f : ℕ → X) (a n : ℕ) → map f (range_with_len a (suc n)) ≡ map f (range_with_len a n) ++ f (a + n) ∷ []
-range_more f a zero = rw (add-zero a) refl
-range_more f a (suc n) = rw (range_more f (a + 1) n) (ap (λ k. f a ∷ (map f (range_with_len (a + 1) n) ++ f k ∷ [])) (omega arith))
-
 -- one more constituency
 pub stands_of-more : (numbers : List ℕ) (n : ℕ) → stands_of (n + 1) numbers ≡ stands_of n numbers ++ list_any (λ m. m == n + 1) numbers ∷ []
-stands_of-more numbers n =
-    rw (add-one n) (range_more (λ d. list_any (λ m. m == d) numbers) 1 n ∙ ap (λ k. stands_of n numbers ++ list_any (λ m. m == k) numbers ∷ []) (omega arith))
+stands_of-more numbers n = map-range_with_len_more (λ d. list_any (λ m. m == d) numbers) 1 n (n + 1) (omega arith)

@@ -5,4 +5,5 @@ pub use Rattle.zh_sheet.proofs.GivenLemmas.{few_given, made_given, made_open, on
 pub use Rattle.zh_sheet.proofs.NameLemmas.{read_back, refusal_named}
 pub use Rattle.zh_sheet.proofs.OneSheetLemmas.{AreSameAbove, same_above, same_asked, same_parts}
 pub use Rattle.zh_sheet.proofs.RefusalLemmas.{memory_answer}
-pub use Rattle.zh_sheet.proofs.SheetLemmas.{targets}
+pub use Rattle.zh_sheet.proofs.SheetLemmas.{name_short, targets}
+pub use Rattle.zh_sheet.proofs.TargetLemmas.{same_seats, same_sums, same_taking}

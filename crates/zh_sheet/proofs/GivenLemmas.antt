@@ -1,13 +1,10 @@
 -- A distribution with given lists: if it may be published, no refusal before the lists holds, and it is the only one.
-use Rattle.std.proofs.Common.{◌≡◌, ◌≢◌, ℕ, ◌+◌, ◌*◌, ◌/◌, ◌%◌, ◌<◌, ◌≤◌, get_or, Option, Ok, Err, Some, None, refl, inl, inr, ap, sym, ◌∙◌, subst, arith}
-use Rattle.zh_divisors.proofs.CallerLemmas.{term-le-sum_to}
+use Rattle.std.proofs.Common.{◌≡◌, ◌≢◌, Option, Ok, Err, Some, None, refl, inl, inr, ap, sym, ◌∙◌, subst, arith}
 use Rattle.std.specs.Prelude.{◌↔◌, Bool, IsTrue, false}
-use Rattle.std.proofs.lemmas.List.Elements.{All-from_get_or}
-use Rattle.std.proofs.Math.Nat.{div-add-mod'}
 use Rattle.zh_matrices.specs.Divisors.{millionths}
-use Rattle.zh_matrices.proofs.CallerLemmas.{column_of, only_seats, row_of, weakened}
+use Rattle.zh_matrices.proofs.CallerLemmas.{few-in-cells, only_seats, weakened}
 use Rattle.zh_sheet.specs.Made.{IsMade}
-use Rattle.zh_matrices.specs.Question.{AreSeatTotals, Question, cell}
+use Rattle.zh_matrices.specs.Question.{AreSeatTotals, Question}
 use Rattle.zh_matrices.specs.SeatMatrix.{IsStrict, SeatMatrix}
 use Rattle.zh_totals.specs.Totals as sums
 use Rattle.zh_totals.specs.Hidden.{NoneHidden}
@@ -116,17 +113,7 @@ few_given q lists totals follow = record {
   rows = follow.limits.rows;
   columns = follow.limits.columns;
   one_each = follow.strict.one_each;
-  few = All-from_get_or (λ s. s ≤ 400) lists.seats 0 (λ k lt.
-      let within : k < q.rows * q.columns = omega (arith, follow.strict.one_each) in
-      let d : ℕ = k / q.columns in
-      let g : ℕ = k % q.columns in
-      let dm : d < q.rows = row_of q.rows q.columns k within in
-      let gn : g < q.columns = column_of q.rows q.columns k within in
-      let place : d * q.columns + g ≡ k = div-add-mod' k q.columns in
-      let most : get_or q.row_totals d 0 ≤ 400 = totals.at_most_400 d 0 (omega (arith, totals.one_each)) in
-      let few : cell q.columns lists.seats d g ≤ 400
-      = omega (arith, term-le-sum_to q.columns (cell q.columns lists.seats d) g gn, follow.strict.rows_add_up d dm) in
-      rw place at few);
+  few = few-in-cells q lists.seats totals follow.strict.one_each follow.strict.rows_add_up;
 }
 
 -- a sheet that was made and shows all votes may be published

@@ -7,21 +7,16 @@ use Rattle.std.proofs.lemmas.List.{get_or-map, length-map, map-append, take_all,
 use Rattle.std.proofs.lemmas.List.Concat.{flat_map-append}
 use Rattle.std.proofs.lemmas.List.Elements.{All-filter, All-from_get_or, filter-append, filter_passes}
 use Rattle.std.proofs.lemmas.List.FromFn.{get_or-range_with_len, length-range_with_len}
+use Rattle.zh_text.proofs.CallerLemmas.{range_more}
 use Rattle.zh_returns.proofs.CallerLemmas.{HasWidth, in_block, length-blocks}
 use Rattle.zh_totals.specs.Totals.{VoteTotals, votes_in}
 use Rattle.zh_sheet.specs.Distribution.{seated_groups}
-
-numbers_suc : (a n : ℕ) → range_with_len a (suc n) ≡ range_with_len a n ++ (a + n) ∷ []
-numbers_suc a zero = ap (λ (x : ℕ). x ∷ []) (omega arith)
-numbers_suc a (suc n) =
-    let last : a + 1 + n ≡ a + suc n = omega arith in
-    ap (λ xs. a ∷ xs) (numbers_suc (a + 1) n ∙ ap (λ (x : ℕ). range_with_len (a + 1) n ++ x ∷ []) last)
 
 -- the numbers from 1 to n, and one more
 pub numbers_more : (n : ℕ) → range_with_len 1 (n + 1) ≡ range_with_len 1 n ++ (n + 1) ∷ []
 numbers_more n =
     let last : 1 + n ≡ n + 1 = omega arith in
-    ap (λ (k : ℕ). range_with_len 1 k) (add-one n) ∙ (numbers_suc 1 n ∙ ap (λ (x : ℕ). range_with_len 1 n ++ x ∷ []) last)
+    ap (λ (k : ℕ). range_with_len 1 k) (add-one n) ∙ (range_more 1 n ∙ ap (λ (x : ℕ). range_with_len 1 n ++ x ∷ []) last)
 
 -- the groups with seats among the first n
 abbrev pub first_seated : List ℕ → ℕ → List ℕ

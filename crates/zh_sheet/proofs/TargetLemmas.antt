@@ -5,8 +5,8 @@ use Rattle.std.proofs.lemmas.Bool.{cases_order}
 use Rattle.std.proofs.lemmas.List.{ext_get_or}
 use Rattle.zh_districts.specs.Seats.{AreSeats, IsFirstWithout, persons}
 use Rattle.zh_divisors.specs.Fit as fits
-use Rattle.zh_divisors.proofs.CallerLemmas.{only_fit, no_strict_fit}
-use Rattle.zh_divisors.specs.Fit.{IsFit, IsStrictFit}
+use Rattle.zh_divisors.proofs.CallerLemmas.{no_strict_fit, only_fit, weak_from_strict}
+use Rattle.zh_divisors.specs.Fit.{IsStrictFit}
 use Rattle.zh_matrices.specs.Question.{IsFirstWithoutVotes, Question}
 use Rattle.zh_quorum.specs.Quorum.{AreParticipating}
 use Rattle.zh_totals.specs.Totals.{VoteTotals}
@@ -17,10 +17,6 @@ use Rattle.zh_upper.specs.declared.fault.UpperRefusal.{UpperRefusal}
 use Rattle.zh_upper.proofs.CallerLemmas.{one_upper_refusal}
 use Rattle.zh_sheet.specs.Distribution.{HaveSeats, Targets, lower_question}
 use Rattle.zh_sheet.specs.Refusals.{GetsNoSeat, HasNoVotes, IsRefusedAbove}
-
-weak_from_strict : (weights : List ℕ) (house : ℕ) (seats : List ℕ) → IsStrictFit weights house seats → IsFit weights house seats
-weak_from_strict weights house seats fit =
-    record { one_each = fit.one_each; add_up = fit.add_up; in_order = λ i j iw jw apart seated. let lt = fit.in_order i j iw jw apart seated in omega (arith, lt) }
 
 same_fit : (weights : List ℕ) (house : ℕ) (seats others : List ℕ) → IsStrictFit weights house seats → IsStrictFit weights house others → others ≡ seats
 same_fit weights house seats others one other = only_fit weights house seats others one (weak_from_strict weights house others other)

@@ -7,6 +7,7 @@ ghost use Rattle.zh_upper.specs.declared.fault.UpperRefusal.TheVariants.{Tied};
 
 use crate::fault::{SheetFault, SheetRefusal};
 use crate::list_ranges::ListRanges;
+use crate::list_seats::ListSeats;
 use crate::reason::{ListTie, NoSheet};
 use std::alloc::{AllocError, Global};
 use zh_districts::{seats, tied};
@@ -47,16 +48,21 @@ fn tied_lists(alloc: Global, totals: &Totals<'_>, tied: &ListTie) -> Result<List
     ensures { IfOk result (AreListRanges totals.now) }
 {
     let asked = &tied.asked;
-    let groups = Vec::from_slice(alloc, &asked.seated)?;
+    let constituencies = totals.setup().constituencies();
     let question = asked
         .matrix
         .question(asked.above.seats.seats(), &asked.column_totals);
     let Ranges { least, most } = lot(alloc, &question, &tied.tie)?;
-    Ok(ListRanges::new(totals.setup().constituencies(), groups, least, most))
+    let of_least = Vec::from_slice(alloc, &asked.seated)?;
+    let of_most = Vec::from_slice(alloc, &asked.seated)?;
+    Ok(ListRanges::new(
+        ListSeats::new(constituencies, of_least, least),
+        ListSeats::new(constituencies, of_most, most),
+    ))
 }
 
-/// What the lot decides, if there is no sheet of these totals because seats are tied. None if the reason is another one. No lot
-/// is drawn. Fails if memory is refused.
+/// What the lot decides, if the refusal is one of the three ties. None if it is another one. No lot is drawn. Fails if memory is
+/// refused.
 pub fn explain_tie(
     alloc: Global,
     totals: &Totals<'_>,

@@ -10,7 +10,7 @@ use Rattle.std.proofs.lemmas.List.Elements.{All-append, All-cons, All-nil}
 use Rattle.std.proofs.lemmas.List.FromFn.{get_or-range_with_len, length-range_with_len}
 use Rattle.std.proofs.Math.Nat.{div-add-mod', mul-le-mul_left, mul-le-mul_right}
 use Rattle.zh_districts.specs.Canton.{Canton, Constituency, IsCanton}
-use Rattle.zh_matrices.proofs.CallerLemmas.{column_of, row_of}
+use Rattle.zh_divisors.proofs.CallerLemmas.{column_of, row_of}
 use Rattle.zh_returns.proofs.CallerLemmas.{HasWidth, in_block, length-blocks}
 use Rattle.zh_sheet_text.specs.Layout.{IsPartOf, IsUpTo, SheetLine, label_text, lines_below, sheet_lines}
 use Rattle.zh_sheet_text.specs.Layout.{constituency_line, end_line, group_line, head_line, house_line, key_line, list_line, quorum_line}

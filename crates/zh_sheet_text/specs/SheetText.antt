@@ -1,13 +1,13 @@
--- The text of a sheet (docs/FORMATS.md, "The sheet"): what stands at each part of its lines.
+-- The text of a sheet (docs/FORMATS.md, "The sheet"): the text of each part of a line, of each line, and of the whole.
 use Rattle.std.specs.Prelude.{ℕ, ◌-◌, Bool, if◌then◌else◌, codes, decimal}
-use Rattle.std.specs.Prelude.{List, [], ◌∷◌, ◌++◌, slice_get, slice_index, flat_map}
+use Rattle.std.specs.Prelude.{List, [], ◌∷◌, ◌++◌, slice_index, flat_map}
 use Rattle.std.specs.Option.{option_map_or}
-use Rattle.zh_districts.specs.Canton.{Canton}
 use Rattle.zh_totals.specs.Totals.{constituency_votes, votes_in}
 use Rattle.zh_upper.specs.VoterNumbers.{voter_number}
 use Rattle.zh_sheet.specs.Distribution.{Distribution}
 use Rattle.zh_sheet.specs.Readings.{column_of, list_seats, takes_part}
 use Rattle.zh_text.specs.Numbers.{millionths_text}
+use Rattle.zh_record_text.specs.Names.{name_of_constituency, name_of_group}
 use Rattle.zh_sheet_text.specs.Layout.{SheetLine, label_text, mark_before, sheet_lines}
 use Rattle.zh_sheet_text.specs.declared.line.Head.{Head}
 use Rattle.zh_sheet_text.specs.declared.line.SheetPart.{SheetPart}
@@ -20,15 +20,8 @@ use Rattle.zh_sheet_text.specs.declared.line.SheetPart.TheVariants.{GroupName, L
 abbrev pub divisor_text : ℕ → List ℕ
 divisor_text millionths = millionths_text millionths
 
--- names
-abbrev pub constituency_name : Canton → ℕ → List ℕ
-constituency_name canton d = option_map_or (λ c. c.name) (slice_get canton.constituencies (d - 1)) []
-
-abbrev pub group_name : Canton → ℕ → List ℕ
-group_name canton g = option_map_or (λ c. c.name) (slice_get canton.groups (g - 1)) []
-
--- the text of a part: divisors of seats are not reduced; a dash replaces the voter numbers of a group that does not take part, and the
--- divisor of a group without seats
+-- the text of a part: a key is a fraction that is not reduced; a dash replaces the voter sum and the voter numbers of a group that does
+-- not take part, and the divisor of a group without seats
 abbrev pub part_text : Distribution → Head → SheetPart → List ℕ
 part_text x head (Fixed label) = label_text label
 part_text x head (Number n) = decimal n
@@ -40,13 +33,13 @@ part_text x head UpperKey = decimal x.upper.num ++ (codes "/" ++ decimal x.upper
 part_text x head (ConstituencySeats d) = decimal (slice_index x.seats.seats (d - 1))
 part_text x head (ConstituencyVotes d) = decimal (constituency_votes x.totals d)
 part_text x head (ConstituencyDivisor d) = divisor_text (slice_index x.lower.divisors.of_rows (d - 1))
-part_text x head (ConstituencyName d) = constituency_name x.totals.canton d
+part_text x head (ConstituencyName d) = name_of_constituency x.totals.canton d
 part_text x head (TakesPart g) = if takes_part x g then codes "yes" else codes "no"
 part_text x head (GroupVoters g) = if takes_part x g then decimal (slice_index x.voters (g - 1)) else codes "-"
 part_text x head (GroupSeats g) = decimal (slice_index x.upper.seats (g - 1))
 part_text x head (GroupDivisor g) =
     option_map_or (λ k. divisor_text (slice_index x.lower.divisors.of_columns k)) (column_of x g) (codes "-")
-part_text x head (GroupName g) = group_name x.totals.canton g
+part_text x head (GroupName g) = name_of_group x.totals.canton g
 part_text x head (ListVotes d g) = decimal (votes_in x.totals d g)
 part_text x head (ListVoters d g) =
     if takes_part x g then decimal (voter_number (votes_in x.totals d g) (slice_index x.seats.seats (d - 1))) else codes "-"

@@ -1,3 +1,4 @@
+pub mod CallerLemmas
 mod DueLemmas
 mod ProblemLemmas
 mod TextLemmas

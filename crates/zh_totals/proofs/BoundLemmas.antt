@@ -17,8 +17,8 @@ use Rattle.zh_totals.specs.Counting.{votes_of, counted, totals_of, lies_in}
 use Rattle.zh_totals.specs.Changes.{noted, change_to, votes_held}
 use Rattle.zh_totals.specs.Parts.{held_before}
 use Rattle.zh_totals.specs.Inside.{AreConstituencies}
-use Rattle.zh_divisors.proofs.CallerLemmas.{sum_to-zero}
-use Rattle.zh_totals.proofs.PlaceLemmas.{place_within, table, length-table, at_table, same_table}
+use Rattle.zh_divisors.proofs.CallerLemmas.{cell-within, same_table, sum_to-zero}
+use Rattle.zh_totals.proofs.PlaceLemmas.{table, length-table, at_table}
 use Rattle.zh_totals.proofs.EntryLemmas.{passing}
 use Rattle.zh_totals.proofs.NotingLemmas.{IsThere, held_counted, votes_counted, noted_entry}
 use Rattle.zh_totals.proofs.RestrictingLemmas.{next_held, next_not_held, next_municipality, before_first, after_last, none_held_yet}
@@ -140,9 +140,9 @@ pub no_sums : (canton : Canton) → IsCanton canton → (totals_of (empty canton
 no_sums canton limits =
     let rows = length canton.constituencies in
     let c = length canton.groups in
-    same_table rows c (table (counted (empty canton)) rows c) (replicate (rows * c) 0) (length-table (counted (empty canton)) rows c) (length-replicate (rows * c) 0) limits.groups.0 (λ d g row column.
+    same_table rows c (table (counted (empty canton)) rows c) (replicate (rows * c) 0) (length-table (counted (empty canton)) rows c) (length-replicate (rows * c) 0) (λ d g row column.
     at_table (counted (empty canton)) rows c d g row column ∙ none_counted canton (d + 1) (g + 1)
-    ∙ sym (get_or-replicate (rows * c) (d * c + g) 0 0 (place_within rows c d g row column)))
+    ∙ sym (get_or-replicate (rows * c) (d * c + g) 0 0 (cell-within rows c d g row column)))
 
 pub AreConstituencies-empty : (canton : Canton) → AreConstituencies (totals_of (empty canton)) (replicate (length canton.constituencies) 0)
 AreConstituencies-empty canton = record {

@@ -1,6 +1,6 @@
 -- Sums of given votes.
-use Rattle.std.proofs.Common.{◌≡◌, ℕ, zero, suc, ◌+◌, ◌-◌, ◌*◌, ◌^◌, ◌≤◌, List, [], ◌∷◌, ◌++◌, length, get_or, inl, inr, sym, ap, ◌∙◌, arith, length-append}
-use Rattle.std.proofs.lemmas.Bool.{cases_eq, cases_lt}
+use Rattle.std.proofs.Common.{◌≡◌, ℕ, ◌+◌, ◌-◌, ◌*◌, ◌^◌, ◌≤◌, List, [], ◌∷◌, ◌++◌, length, get_or, inl, inr, sym, ap, ◌∙◌, arith, length-append}
+use Rattle.std.proofs.lemmas.Bool.{cases_lt}
 use Rattle.std.proofs.lemmas.List.{get_or_append_left}
 use Rattle.std.proofs.Math.Seq.{get_or-append_seam}
 use Rattle.zh_districts.specs.Canton.{IsCanton}
@@ -9,14 +9,6 @@ use Rattle.zh_divisors.specs.Sums.{sum_to}
 use Rattle.zh_totals.specs.GivenVotes.{AreRowSums, votes_from, votes_of_rows}
 use Rattle.zh_totals.specs.Inside.{AreConstituencies}
 use Rattle.zh_totals.specs.Totals.{AreTotals, VoteTotals, all_votes, constituency_votes, votes_in}
-
--- a sum of fewer terms is not greater
-pub sum_to-fewer : (n m : ℕ) (f : ℕ → ℕ) → n ≤ m → sum_to n f ≤ sum_to m f
-sum_to-fewer n zero f le = let none : n ≡ 0 = omega arith in rw none (omega arith)
-sum_to-fewer n (suc m) f le = elim (cases_eq n (suc m)) [
-  | inl same ↦ rw same (omega arith)
-  | inr less ↦ omega (arith, sum_to-fewer n m f (omega arith))
-]
 
 -- the votes of a constituency are those of its row
 row_votes : (totals : VoteTotals) (d : ℕ) → constituency_votes totals (d + 1) ≡ votes_from totals.votes (d * length totals.canton.groups) (length totals.canton.groups)

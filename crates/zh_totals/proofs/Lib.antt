@@ -8,5 +8,4 @@ mod HiddenLemmas
 mod NotingLemmas
 mod PlaceLemmas
 mod RestrictingLemmas
-mod SumLemmas
 mod TotalsLemmas

@@ -9,11 +9,12 @@ use Rattle.zh_returns.specs.declared.entry.Entry.{Entry}
 use Rattle.zh_returns.specs.Tally.{Tally}
 use Rattle.zh_returns.specs.Keys.{key_cmp}
 use Rattle.zh_returns.proofs.CallerLemmas.{keys_total}
+use Rattle.zh_divisors.proofs.CallerLemmas.{cell-within, same_place, same_table}
 use Rattle.zh_totals.specs.Totals.{place_in, votes_in}
 use Rattle.zh_totals.specs.Counting.{votes_of, lies_in, counted, totals_of}
 use Rattle.zh_totals.specs.Changes.{noted, sum_after, votes_held, change_to}
 use Rattle.zh_totals.proofs.EntryLemmas.{passing, votes_found, passing_put, found_in_passing}
-use Rattle.zh_totals.proofs.PlaceLemmas.{table, length-table, at_table, place_within, other_place, same_table}
+use Rattle.zh_totals.proofs.PlaceLemmas.{table, length-table, at_table}
 
 -- a count with an entry in place of what is held under its key
 abbrev pub with_entry : Tally → ℕ → ℕ → Entry → Tally
@@ -89,13 +90,13 @@ noted_entry tally m l entry there =
     let new = table (counted (with_entry tally m l entry)) rows c in
     let value = sum_after (totals_of tally) (change_to tally m l (votes_of entry)) in
     let whole : length old ≡ rows * c = length-table (counted tally) rows c in
-    let inside : place < rows * c = place_within rows c (at - 1) (l - 1) (omega arith) (omega arith) in
+    let inside : place < rows * c = cell-within rows c (at - 1) (l - 1) (omega arith) (omega arith) in
     let same : new ≡ set old place value =
-    same_table rows c new (set old place value) (length-table (counted (with_entry tally m l entry)) rows c) (length-set old place value ∙ whole) (omega arith) (λ d g row column.
+    same_table rows c new (set old place value) (length-table (counted (with_entry tally m l entry)) rows c) (length-set old place value ∙ whole) (λ d g row column.
     at_table (counted (with_entry tally m l entry)) rows c d g row column
     ∙ elim (cases_eq (d * c + g) place) [
       | inl here ↦
-          let parts = other_place c d g (at - 1) (l - 1) column (omega arith) here in
+          let parts = same_place c d g (at - 1) (l - 1) column (omega arith) here in
           let constituency : at ≡ d + 1 = omega arith in
           let list : g + 1 ≡ l = omega arith in
           let sum : votes_in (totals_of tally) at l ≡ counted tally at l = votes_counted tally at l there.constituency.0 there.constituency.1 there.list.0 there.list.1 in

@@ -5,9 +5,7 @@ use Rattle.zh_totals.specs.Totals.{VoteTotals, AreTotals, place_in, votes_in, co
 use Rattle.zh_totals.specs.Changes.{IsChange, noted, sum_after}
 use Rattle.std.proofs.lemmas.Bool.{cases_eq}
 use Rattle.zh_totals.specs.Inside.{AreConstituencies}
-use Rattle.zh_divisors.proofs.CallerLemmas.{sum_to-ext, term-le-sum_to}
-use Rattle.zh_totals.proofs.SumLemmas.{sum_to_changed}
-use Rattle.zh_totals.proofs.PlaceLemmas.{place_within, other_place}
+use Rattle.zh_divisors.proofs.CallerLemmas.{cell-within, same_place, sum_to-changed, sum_to-ext, term-le-sum_to}
 
 -- a group has no more votes in a constituency than all groups
 pub group_within : (totals : VoteTotals) (d g : ℕ) → 1 ≤ g → g ≤ length totals.canton.groups → votes_in totals d g ≤ constituency_votes totals d
@@ -44,7 +42,7 @@ can_note totals change are is = record { one_each = are.one_each; constituency =
 pub noted_here : (totals : VoteTotals) (change : Change) → CanNote totals change → votes_in (noted totals change) change.constituency change.list ≡ sum_after totals change
 noted_here totals change can =
     let place = place_in totals.canton change.constituency change.list in
-    let inside = place_within (length totals.canton.constituencies) (length totals.canton.groups) (change.constituency - 1) (change.list - 1) (omega arith) (omega arith) in
+    let inside = cell-within (length totals.canton.constituencies) (length totals.canton.groups) (change.constituency - 1) (change.list - 1) (omega arith) (omega arith) in
     get_or-set_same totals.votes place (sum_after totals change) 0 (omega arith)
 
 -- another sum, afterwards
@@ -60,8 +58,8 @@ noted_constituency totals change can =
     let number : change.list - 1 + 1 ≡ change.list = omega arith in
     let old : votes_in totals d (change.list - 1 + 1) ≡ votes_in totals d change.list = ap (votes_in totals d) number in
     let new : votes_in (noted totals change) d (change.list - 1 + 1) ≡ sum_after totals change = ap (votes_in (noted totals change) d) number ∙ noted_here totals change can in
-    let sums = sum_to_changed (length totals.canton.groups) (change.list - 1) (λ i. votes_in totals d (i + 1))
-    (λ i. votes_in (noted totals change) d (i + 1)) (omega arith)
+    let sums = sum_to-changed (length totals.canton.groups) (λ i. votes_in totals d (i + 1))
+    (λ i. votes_in (noted totals change) d (i + 1)) (change.list - 1) (omega arith)
     (λ i lt other. sym (noted_there totals change d (i + 1) (λ same. other (omega arith)))) in
     omega arith
 
@@ -71,7 +69,7 @@ pub noted_elsewhere : (totals : VoteTotals) (change : Change) (d : ℕ) → CanN
 noted_elsewhere totals change d can from_one other =
     sum_to-ext (length totals.canton.groups) (λ i. votes_in (noted totals change) d (i + 1)) (λ i. votes_in totals d (i + 1)) (λ i lt.
     noted_there totals change d (i + 1) (λ same.
-    let parts = other_place (length totals.canton.groups) (d - 1) (i + 1 - 1) (change.constituency - 1) (change.list - 1) (omega arith) (omega arith) same in
+    let parts = same_place (length totals.canton.groups) (d - 1) (i + 1 - 1) (change.constituency - 1) (change.list - 1) (omega arith) (omega arith) same in
     other (omega arith)))
 
 -- all votes together, afterwards
@@ -82,8 +80,8 @@ noted_all totals change can =
     let new : constituency_votes (noted totals change) (change.constituency - 1 + 1) ≡ constituency_votes (noted totals change)
     change.constituency = ap (constituency_votes (noted totals change)) number in
     let here = noted_constituency totals change can in
-    let sums = sum_to_changed (length totals.canton.constituencies) (change.constituency - 1) (λ i. constituency_votes totals (i + 1))
-    (λ i. constituency_votes (noted totals change) (i + 1)) (omega arith)
+    let sums = sum_to-changed (length totals.canton.constituencies) (λ i. constituency_votes totals (i + 1))
+    (λ i. constituency_votes (noted totals change) (i + 1)) (change.constituency - 1) (omega arith)
     (λ i lt other. sym (noted_elsewhere totals change (i + 1) can (omega arith) (omega arith))) in
     omega arith
 

@@ -7,10 +7,11 @@ use Rattle.std.proofs.lemmas.List.Elements.{All-cons}
 use Rattle.std.proofs.lemmas.List.Sums.{get_or-le-sum_by}
 use Rattle.std.proofs.lemmas.Nat.{mul-le}
 use Rattle.std.proofs.Math.Nat.{le_of_eq, mul-le-mul_left}
+use Rattle.zh_divisors.proofs.CallerLemmas.{le_by_le}
 use Rattle.zh_divisors.specs.Claims.{HasSameClaim, TellClaims}
 use Rattle.zh_divisors.specs.Fit.{IsTied}
 use Rattle.zh_upper.specs.Halves.{AreFewHalves, IsFirstAbove}
-use Rattle.zh_upper.proofs.HalfLemmas.{IsTiedAtHalf, first_above, le_by_le}
+use Rattle.zh_upper.proofs.HalfLemmas.{IsTiedAtHalf, first_above}
 
 -- the weight whose last seat is tied is positive
 seated_positive : (weights : List ℕ) (house : ℕ) (t : IsTied weights house) → Any (λ w. 0 < w) weights → 0 < get_or weights t.from 0

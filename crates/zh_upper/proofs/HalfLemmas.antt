@@ -1,38 +1,14 @@
 -- Seats under a divisor that puts some weights on a half, and all other fits.
-use Rattle.std.proofs.Common.{◌≡◌, ◌≢◌, ◌∙◌, ℕ, zero, suc, ◌+◌, ◌-◌, ◌*◌, ◌<◌, ◌≤◌, List, [], ◌∷◌, length, get_or, map, set, sum, sum_by, ap, sym, refl, inl, inr, ⊎_elim, arith}
-use Rattle.std.specs.Prelude.{◌⊎◌}
+use Rattle.std.proofs.Common.{◌≡◌, ◌≢◌, ◌∙◌, ℕ, zero, suc, ◌+◌, ◌-◌, ◌*◌, ◌<◌, ◌≤◌, List, [], ◌∷◌, length, get_or, map, set, sum, sum_by, ap, sym, inl, inr, ⊎_elim, arith}
 use Rattle.std.proofs.lemmas.Bool.{cases_lt, cases_eq}
 use Rattle.std.proofs.lemmas.List.{get_or-map, get_or-set_other, get_or-set_same, length-map, length-set}
 use Rattle.std.proofs.lemmas.List.Sums.{get_or-le-sum_by, sum_by-cons, sum_by-set}
 use Rattle.std.proofs.lemmas.Nat.{div_below, le-div}
-use Rattle.std.proofs.Math.Nat.{le_of_eq, le_of_mul-le-mul_left, lt_of_mul-lt-mul_left, mul-le-mul_left, mul-lt-mul_of_pos_left}
+use Rattle.std.proofs.Math.Nat.{le_of_eq, lt_of_mul-lt-mul_left, mul-le-mul_left, mul-lt-mul_of_pos_left}
 use Rattle.zh_divisors.specs.Fit.{IsFit}
+use Rattle.zh_divisors.proofs.CallerLemmas.{found_or_none, le_by_le, lt_by_le_lt, lt_by_lt_le, same-from_sum}
 use Rattle.zh_upper.specs.Halves.{IsFirstAbove, rounded_down, rounded_up}
 use Rattle.zh_upper.specs.Ranges.{AreSeatRanges, HasSeatRange, MayHave}
-
--- a / p ≤ b / q ≤ c / r
-pub le_by_le : (a p b q c r : ℕ) → 0 < q → a * q ≤ b * p → b * r ≤ c * q → a * r ≤ c * p
-le_by_le a p b q c r positive h k =
-    let below : r * (a * q) ≤ r * (b * p) = mul-le-mul_left r h in
-    let above : p * (b * r) ≤ p * (c * q) = mul-le-mul_left p k in
-    let both : q * (a * r) ≤ q * (c * p) = omega (arith, below, above) in
-    le_of_mul-le-mul_left both positive
-
--- a / p ≤ b / q < c / r
-lt_by_le_lt : (a p b q c r : ℕ) → 0 < p → a * q ≤ b * p → b * r < c * q → a * r < c * p
-lt_by_le_lt a p b q c r positive h k =
-    let below : r * (a * q) ≤ r * (b * p) = mul-le-mul_left r h in
-    let above : p * (b * r) < p * (c * q) = mul-lt-mul_of_pos_left k positive in
-    let both : q * (a * r) < q * (c * p) = omega (arith, below, above) in
-    lt_of_mul-lt-mul_left q both
-
--- a / p < b / q ≤ c / r
-lt_by_lt_le : (a p b q c r : ℕ) → 0 < r → a * q < b * p → b * r ≤ c * q → a * r < c * p
-lt_by_lt_le a p b q c r positive h k =
-    let below : r * (a * q) < r * (b * p) = mul-lt-mul_of_pos_left h positive in
-    let above : p * (b * r) ≤ p * (c * q) = mul-le-mul_left p k in
-    let both : q * (a * r) < q * (c * p) = omega (arith, below, above) in
-    lt_of_mul-lt-mul_left q both
 
 -- no next seat is worth more than n / m, and no last seat less
 pub record MayRoundTo (weights : List ℕ) (n m : ℕ) (seats : List ℕ) : Type 0 where
@@ -54,45 +30,17 @@ pub record IsTiedAtHalf (weights : List ℕ) (house n m : ℕ) : Type 0 where
   pub last : n * (2 * get_or seats from 0 - 1) ≡ get_or weights from 0 * m
   pub next : get_or weights to 0 * m ≡ n * (2 * get_or seats to 0 + 1)
 
--- numbers that are at most those of a list and have at least its sum are that list
-same_from_sum : (xs ys : List ℕ) → length ys ≡ length xs → ((k : ℕ) → k < length xs → get_or ys k 0 ≤ get_or xs k 0) →
-    sum xs ≤ sum ys → ys ≡ xs
-same_from_sum [] [] same below least = refl
-same_from_sum [] (y ∷ ys) same below least = absurd (omega arith)
-same_from_sum (x ∷ xs) [] same below least = absurd (omega arith)
-same_from_sum (x ∷ xs) (y ∷ ys) same below least =
-    let head : y ≤ x = below 0 (omega arith) in
-    let tail : (k : ℕ) → k < length xs → get_or ys k 0 ≤ get_or xs k 0 = λ k lt. below (suc k) (omega arith) in
-    let xs_is : sum (x ∷ xs) ≡ x + sum xs = sum_by-cons (λ n. n) x xs in
-    let ys_is : sum (y ∷ ys) ≡ y + sum ys = sum_by-cons (λ n. n) y ys in
-    let same_tail : ys ≡ xs = same_from_sum xs ys (omega arith) tail (omega arith) in
-    let same_head : y ≡ x = omega (arith, ap sum same_tail) in
-    cc
-
--- among the first n places the first list has a smaller number somewhere, or nowhere
-less_somewhere : (xs ys : List ℕ) (n : ℕ) →
-    ((l : ℕ) × (l < n) × (get_or xs l 0 < get_or ys l 0)) ⊎ ((l : ℕ) → l < n → get_or ys l 0 ≤ get_or xs l 0)
-less_somewhere xs ys zero = inr (λ l lt. absurd (omega (arith, lt)))
-less_somewhere xs ys (suc n) =
-    elim (less_somewhere xs ys n) [
-      | inl there ↦ inl (there.0, omega (arith, there.1), there.2)
-      | inr none ↦
-          ⊎_elim
-          (λ less. inl (n, omega arith, less))
-          (λ le. inr (λ l lt. ⊎_elim (λ is. rw is le) (λ differ. none l (omega (arith, lt, differ))) (cases_eq l n)))
-          (cases_lt (get_or xs n 0) (get_or ys n 0))
-    ]
-
 -- if of two fits the second has more seats at k, the first has more somewhere
 more_elsewhere : (weights : List ℕ) (house : ℕ) (xs ys : List ℕ) (k : ℕ) → IsFit weights house xs → IsFit weights house ys →
     k < length weights → get_or xs k 0 < get_or ys k 0 → (l : ℕ) × (l < length weights) × (get_or ys l 0 < get_or xs l 0)
 more_elsewhere weights house xs ys k one other kw less =
-    elim (less_somewhere ys xs (length weights)) [
+    elim (found_or_none (λ l. get_or ys l 0 < get_or xs l 0) (λ l. get_or xs l 0 ≤ get_or ys l 0)
+    (λ l. cases_lt (get_or ys l 0) (get_or xs l 0)) (length weights)) [
       | inl there ↦ there
       | inr none ↦
           let below : (l : ℕ) → l < length ys → get_or xs l 0 ≤ get_or ys l 0
           = λ l lt. none l (omega (arith, lt, other.one_each)) in
-          let same : xs ≡ ys = same_from_sum ys xs (one.one_each ∙ sym other.one_each) below (le_of_eq (other.add_up ∙ sym one.add_up)) in
+          let same : xs ≡ ys = same-from_sum ys xs (one.one_each ∙ sym other.one_each) below (le_of_eq (other.add_up ∙ sym one.add_up)) in
           absurd (omega (arith, less, ap (λ (s : List ℕ). get_or s k 0) same))
     ]
 

@@ -2,8 +2,7 @@
 use Rattle.std.proofs.Common.{◌≡◌, ℕ, suc, ◌<◌, ◌≤◌, Bool, true, false, List, [], ◌∷◌, ◌++◌, All, Contains, length, cond, count_by, refl, ap, arith}
 use Rattle.std.proofs.lemmas.List.Elements.{All-nil, All-cons, All-head, All-tail}
 use Rattle.std.proofs.lemmas.List.Sums.{sum_by-cons}
-use Rattle.zh_divisors.specs.Shares.{Apportionment}
-use Rattle.zh_upper.specs.UpperSeats.{of_participants, shares_of_participants}
+use Rattle.zh_upper.specs.UpperSeats.{of_participants}
 
 -- the numbers of the groups that take part, with one more group at the end
 pub of_participants-append : (numbers : List ℕ) (taking : List Bool) (n : ℕ) (takes_part : Bool) →
@@ -47,8 +46,3 @@ Contains-from_participant (n ∷ numbers) [] some = absurd (omega arith)
 Contains-from_participant (n ∷ numbers) (true ∷ taking) some = (0, omega arith, refl)
 Contains-from_participant (n ∷ numbers) (false ∷ taking) some =
     let there = Contains-from_participant numbers taking some in (suc there.0, omega (arith, there.1), there.2)
-
--- what is true of the shares of the groups that take part is true of these shares among those of all groups
-pub of_shares : (P : Apportionment → Type 0) (shares all : Apportionment) (taking : List Bool) → of_participants all.seats taking ≡ shares.seats →
-    all.num ≡ shares.num → all.den ≡ shares.den → P shares → P (shares_of_participants all taking)
-of_shares P shares all taking seats num den true_of = rw (seats, num, den) true_of

@@ -1,44 +1,19 @@
 -- How large a voter sum can be.
-use Rattle.std.proofs.Common.{◌≡◌, ℕ, zero, suc, ◌+◌, ◌-◌, ◌^◌, ◌<◌, ◌≤◌, ◌∙◌, ◌++◌, ◌∷◌, All, List, [], length, length-append, get_or, refl, ap, sym, inl, inr, arith}
+use Rattle.std.proofs.Common.{◌≡◌, ℕ, ◌+◌, ◌-◌, ◌^◌, ◌<◌, ◌≤◌, ◌∙◌, ◌++◌, ◌∷◌, All, List, [], length, length-append, get_or, refl, ap, sym, inl, inr, arith}
 use Rattle.std.proofs.Math.Seq.{get_or-append_seam}
 use Rattle.std.proofs.lemmas.Bool.{cases_eq}
 use Rattle.std.proofs.lemmas.List.{get_or_append_left}
 use Rattle.std.proofs.lemmas.List.Elements.{All-nil, All-push}
+use Rattle.zh_divisors.proofs.CallerLemmas.{sum_to-fewer, sum_to-le}
 use Rattle.zh_divisors.specs.Sums.{sum_to}
 use Rattle.zh_totals.specs.Totals.{VoteTotals, AreTotals, votes_in, constituency_votes}
+use Rattle.zh_totals.proofs.CallerLemmas.{group_within}
 use Rattle.zh_upper.specs.VoterNumbers.{AreVoterSums, voter_number, voter_sum}
 use Rattle.zh_upper.proofs.CallerLemmas.{voter_number-le}
-
--- sums compare as their terms do
-sum_to-le : (n : ℕ) (f g : ℕ → ℕ) → ((i : ℕ) → i < n → f i ≤ g i) → sum_to n f ≤ sum_to n g
-sum_to-le zero f g each = omega arith
-sum_to-le (suc n) f g each = omega (arith, sum_to-le n f g (λ i lt. each i (omega arith)), each n (omega arith))
-
--- a term is at most the sum
-term-le-sum_to : (n i : ℕ) (f : ℕ → ℕ) → i < n → f i ≤ sum_to n f
-term-le-sum_to zero i f lt = absurd (omega arith)
-term-le-sum_to (suc n) i f lt = elim (cases_eq i n) [
-  | inl last ↦ rw last (omega arith)
-  | inr other ↦ omega (arith, term-le-sum_to n i f (omega (arith, other)))
-]
-
--- the first terms add up to at most the whole sum
-sum_to-mono : (m n : ℕ) (f : ℕ → ℕ) → m ≤ n → sum_to m f ≤ sum_to n f
-sum_to-mono m zero f le = let none : m ≡ 0 = omega arith in rw none (omega arith)
-sum_to-mono m (suc n) f le = elim (cases_eq m (suc n)) [
-  | inl same ↦ rw same (omega arith)
-  | inr other ↦ omega (arith, sum_to-mono m n f (omega (arith, other)))
-]
 
 -- the voter number of the list of group g in the constituency at place i
 abbrev pub number_at : VoteTotals → List ℕ → ℕ → ℕ → ℕ
 number_at totals seats g i = voter_number (votes_in totals (i + 1) g) (get_or seats i 0)
-
--- the list of group g has at most the votes of its constituency
-pub votes_in-le : (totals : VoteTotals) (i g : ℕ) → 1 ≤ g → g ≤ length totals.canton.groups → votes_in totals (i + 1) g ≤ constituency_votes totals (i + 1)
-votes_in-le totals i g from_one there =
-    let place : g - 1 + 1 ≡ g = omega arith in
-    rw place at (term-le-sum_to (length totals.canton.groups) (g - 1) (λ j. votes_in totals (i + 1) (j + 1)) (omega arith))
 
 -- the voter numbers of a group in the first n constituencies add up to at most 10^14
 pub voter_sum-small : (totals : VoteTotals) (seats : List ℕ) (g n : ℕ) → AreTotals totals → length seats ≡ length totals.canton.constituencies →
@@ -46,12 +21,12 @@ pub voter_sum-small : (totals : VoteTotals) (seats : List ℕ) (g n : ℕ) → A
     sum_to n (number_at totals seats g) ≤ 10 ^ 14
 voter_sum-small totals seats g n limits one_each seated from_one there within =
     let as_many : (i : ℕ) → i < n → number_at totals seats g i ≤ constituency_votes totals (i + 1)
-    = λ i lt. omega (arith, voter_number-le (votes_in totals (i + 1) g) (get_or seats i 0) (seated i 0 (omega arith)), votes_in-le totals i g from_one there) in
+    = λ i lt. omega (arith, voter_number-le (votes_in totals (i + 1) g) (get_or seats i 0) (seated i 0 (omega arith)), group_within totals (i + 1) g from_one there) in
     omega (
       arith,
       limits.most,
       sum_to-le n (number_at totals seats g) (λ i. constituency_votes totals (i + 1)) as_many,
-      sum_to-mono n (length totals.canton.constituencies) (λ i. constituency_votes totals (i + 1)) within,
+      sum_to-fewer n (length totals.canton.constituencies) (λ i. constituency_votes totals (i + 1)) within,
     )
 
 -- the voter sums of the first n groups

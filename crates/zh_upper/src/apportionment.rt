@@ -17,7 +17,8 @@ fn has_voters(sums: &[u64]) -> bool
     sums.iter().any(|sum| *sum > 0)
 }
 
-/// The seats of the house in proportion to these sums, with the divisor. At least one of the sums must not be 0.
+/// The seats of the house in proportion to these sums, with the divisor. At least one of the sums must not be 0. Fails if the
+/// seats are tied or memory is refused.
 fn shares_of(alloc: Global, sums: &[u64], house: u32) -> Result<Shares, ShareFault>
     requires some_voters { Any (λ v. 0 < v) sums.now }
     requires at_most_32 { length sums.now ≤ 32 }
@@ -30,8 +31,11 @@ fn shares_of(alloc: Global, sums: &[u64], house: u32) -> Result<Shares, ShareFau
     apportion(alloc, &weights, house)
 }
 
-/// The seats of the house for each group, in proportion to the voter sums of the groups that take part (GPR
-/// section 103). The other groups are left out and get no seats.
+/// The seats of the house, apportioned to the groups that take part in proportion to their voter sums (GPR section 103), with
+/// the divisor. Each other group gets 0 seats.
+///
+/// The groups get no seats if no group takes part, if the voter sums of all groups that do are 0, or if the seats are tied. The
+/// first of these cases that holds, in this order, is the fault. In place of any answer, the fault can be refused memory.
 pub fn upper(
     alloc: Global,
     voters: &[u64],
@@ -59,7 +63,9 @@ pub fn upper(
     }
     let shares = shares_of(alloc, &sums, house)?;
     let seats = spread(alloc, shares.seats(), taking)?;
-    Ok(Upper::new(seats, shares.num(), shares.den()))
+    Ok(Upper {
+        shares: Shares::new(seats, shares.num(), shares.den()),
+    })
 }
 
 /// The voter sums of the groups that take part, in their order.

@@ -17,7 +17,7 @@ desk_part desk = codes ", desk " ++ decimal desk ++ 10 ∷ []
 
 -- what a check can't know
 abbrev pub unchecked_line : RightSheet → List ℕ
-unchecked_line right = kind_part right.is_final ++ commands_part right.accepted ++ desk_part right.desk
+unchecked_line right = kind_part right.head.is_final ++ commands_part right.head.accepted ++ desk_part right.head.desk
 
 -- the sheet is right for the rows that are held, and this many returns are missing
 abbrev pub missing_line : HeldRows → List ℕ

@@ -1,4 +1,4 @@
-//! The text of the parts of a sheet that hold, and of the verdict on a right sheet.
+//! The lines of the parts of a sheet that are right, and the text of the verdict on a right sheet.
 ghost use Rattle.std.specs.Prelude.{◌≡◌, ◌++◌, OnOk, ◌≤◌, IfOk};
 ghost use Rattle.zh_verdicts.specs.Parts.{form_and_votes, parts_above, parts_text, rows_part, votes_line};
 ghost use Rattle.zh_verdicts.specs.Right.{commands_part, desk_part, kind_part, missing_line, right_verdict, unchecked_line, worth_line};
@@ -8,7 +8,7 @@ use zh_check::RightSheet;
 use zh_tables::HeldRows;
 use zh_text::push_number;
 
-/// Appends the number of rows and the number of returns due.
+/// Appends `H of D rows`: the number of rows that are held, and the number of returns that are due.
 pub(crate) fn push_rows(text: &mut Vec<u8>, rows: HeldRows) -> Result<(), AllocError>
     ensures { OnOk result (text.new.items ≡ text.old.items ++ rows_part rows) }
 {
@@ -30,7 +30,7 @@ fn push_votes(text: &mut Vec<u8>, held: Option<HeldRows>) -> Result<(), AllocErr
     text.extend_from_slice(b"\n")
 }
 
-/// Appends that the form and the votes hold.
+/// Appends `form ok` and the line about the votes.
 pub(crate) fn push_form_and_votes(
     text: &mut Vec<u8>,
     held: Option<HeldRows>,
@@ -41,7 +41,8 @@ pub(crate) fn push_form_and_votes(
     push_votes(text, held)
 }
 
-/// Appends the further parts that hold above the first wrong line, given what that line should be.
+/// Appends the lines of further parts that are right: of the seats and the participation if the first line that differs should
+/// be that of a list, of the seats only if it should be that of a group, otherwise none. `should` is what that line should be.
 pub(crate) fn push_parts_above(text: &mut Vec<u8>, should: &[u8]) -> Result<(), AllocError>
     ensures { OnOk result (text.new.items ≡ text.old.items ++ parts_above should.now) }
 {
@@ -54,7 +55,7 @@ pub(crate) fn push_parts_above(text: &mut Vec<u8>, should: &[u8]) -> Result<(), 
     }
 }
 
-/// Appends that all parts hold.
+/// Appends the lines of all parts, from `form ok` to `lists ok`.
 pub(crate) fn push_parts(text: &mut Vec<u8>, held: Option<HeldRows>) -> Result<(), AllocError>
     ensures { OnOk result (text.new.items ≡ text.old.items ++ parts_text held) }
 {
@@ -62,7 +63,7 @@ pub(crate) fn push_parts(text: &mut Vec<u8>, held: Option<HeldRows>) -> Result<(
     text.extend_from_slice(b"seats ok\nparticipation ok\nvoters ok\ngroups ok\nlists ok\n")
 }
 
-/// Appends whether a sheet is final.
+/// Appends `not checked: final` or `not checked: provisional`.
 fn push_kind(text: &mut Vec<u8>, is_final: bool) -> Result<(), AllocError>
     ensures { OnOk result (text.new.items ≡ text.old.items ++ kind_part is_final) }
 {
@@ -81,7 +82,7 @@ fn push_commands(text: &mut Vec<u8>, accepted: u64) -> Result<(), AllocError>
     push_number(text, accepted)
 }
 
-/// Appends the desk and a line feed.
+/// Appends which desk asked for the sheet, and LF.
 fn push_desk(text: &mut Vec<u8>, desk: u8) -> Result<(), AllocError>
     ensures { OnOk result (text.new.items ≡ text.old.items ++ desk_part desk) }
 {
@@ -94,9 +95,9 @@ fn push_desk(text: &mut Vec<u8>, desk: u8) -> Result<(), AllocError>
 fn push_unchecked(text: &mut Vec<u8>, right: &RightSheet<'_>) -> Result<(), AllocError>
     ensures { OnOk result (text.new.items ≡ text.old.items ++ unchecked_line right.now) }
 {
-    push_kind(text, right.is_final)?;
-    push_commands(text, right.accepted)?;
-    push_desk(text, right.desk)
+    push_kind(text, right.head.is_final)?;
+    push_commands(text, right.head.accepted)?;
+    push_desk(text, right.head.desk)
 }
 
 /// The line about what a check can't know of a right sheet: whether it is final or provisional, how many commands were
@@ -109,7 +110,7 @@ pub fn unchecked_line(alloc: Global, right: &RightSheet<'_>) -> Result<Vec<u8>, 
     Ok(line)
 }
 
-/// Appends that the sheet is right for the rows that are held, and how many returns are missing.
+/// Appends the line `sheet ok for ..`, with the rows that are held and the number of missing returns.
 fn push_missing(text: &mut Vec<u8>, rows: HeldRows) -> Result<(), AllocError>
     requires { rows.held ≤ rows.due }
     ensures { OnOk result (text.new.items ≡ text.old.items ++ missing_line rows) }
@@ -134,7 +135,7 @@ fn push_worth(text: &mut Vec<u8>, held: Option<HeldRows>) -> Result<(), AllocErr
     }
 }
 
-/// Appends the verdict on a right sheet: that all parts hold, what a check can't know, and what it has shown.
+/// Appends the verdict on a right sheet: the lines of all parts, what a check can't know, and what it has shown.
 pub(crate) fn push_right(
     text: &mut Vec<u8>,
     right: &RightSheet<'_>,

@@ -1,5 +1,5 @@
 use Rattle.std.proofs.Common.{◌∙◌, ◌/◌, ◌%◌, length, ap, arith}
-use Rattle.zh_matrices.proofs.CallerLemmas.{column_of, row_of}
+use Rattle.zh_divisors.proofs.CallerLemmas.{column_of, row_of}
 use Rattle.zh_check.proofs.SizeLemmas.{length-groups, length-rows, length-seats, length-votes}
 use Rattle.zh_check.proofs.lists.list_at.Goals as goal
 

@@ -20,14 +20,12 @@ returns-in_default-2 c =
 pub returns : goal.returns
 returns c =
     let canton = c.args.setup.now in
-    let head = c.args.values.now.head in
     let given : VoteTotals = record { canton = canton; votes = c.in_ok-votes.votes.items } in
     let totals = subst (λ t. AreTotalsOf given t) c.in-Some.is c.in_ok-totals.ensures in
     let read : c.in-Some.totals ≡ totals_read canton c.args.text.now
     = totals.0 ∙ ap (λ v. record { canton = canton; votes = v }) (c.in_ok-votes.ensures.items ∙ (c.deref.ensures.value ∙ c.requires.votes)) in
     let lists = lists_read c.in-Some.totals.canton c.args.text.now in
-    let desk = c.is_desk.ensures.0 c.if-not-is_desk.false in
-    one_sheet canton c.args.text.now c.in-Some.totals lists c.in-Some-2.sheet head.desk head.is_final head.accepted
+    one_sheet canton c.args.text.now c.in-Some.totals lists c.in-Some-2.sheet c.args.values.now.head
     read (ap (λ t. lists_read t.canton c.args.text.now) read)
     (subst (λ f. IsGiven c.in-Some.totals lists f) c.in-Some-2.is c.in_ok-sheet.ensures)
-    desk.0 desk.1 c.requires.desk c.requires.is_final c.requires.accepted
+    (c.is_desk.ensures.0 c.if-not-is_desk.false) c.requires.head

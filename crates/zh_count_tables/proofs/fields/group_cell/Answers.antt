@@ -1,5 +1,5 @@
 use Rattle.std.proofs.Common.{arith, ◌-◌}
-use Rattle.zh_count_tables.proofs.NameLemmas.{name_short}
+use Rattle.zh_sheet.proofs.CallerLemmas.{name_short}
 use Rattle.zh_count_tables.proofs.fields.group_cell.Goals as goal
 
 pub text_cell-requires : goal.text_cell-requires

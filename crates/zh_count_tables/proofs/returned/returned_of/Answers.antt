@@ -1,7 +1,7 @@
 use Rattle.std.proofs.Common.{◌≡◌, ◌+◌, arith, rules}
 use Rattle.zh_count_tables.specs.Returned.{is_due, is_held}
 use Rattle.zh_tables.specs.Progress.{one_if}
-use Rattle.zh_count_tables.proofs.CountingLemmas.{count_step, one_few}
+use Rattle.zh_tables.proofs.CallerLemmas.{count_step, one_few}
 use Rattle.zh_count_tables.proofs.returned.returned_of.Goals as goal
 
 pub loop-place-preserved : goal.loop-place-preserved

@@ -2,7 +2,7 @@ use Rattle.std.proofs.Common.{ap, decimal, rules, true, ◌≡◌, ◌∙◌}
 use Rattle.zh_districts.specs.Canton.{stands}
 use Rattle.zh_totals.specs.Counting.{counted}
 use Rattle.zh_totals.specs.Totals.{VoteTotals, votes_in}
-use Rattle.zh_count_tables.proofs.TotalsLemmas.{votes_counted}
+use Rattle.zh_totals.proofs.CallerLemmas.{votes_counted}
 use Rattle.zh_count_tables.proofs.vote_cells.votes_or_dash.Goals as goal
 
 pub returns-then-stands : goal.returns-then-stands

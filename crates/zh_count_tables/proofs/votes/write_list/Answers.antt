@@ -7,7 +7,7 @@ use Rattle.zh_count_tables.specs.Quorums.{reaches_quorum}
 use Rattle.zh_count_tables.specs.Returned.{returned_of}
 use Rattle.zh_count_tables.specs.Votes.{yes_or_no}
 use Rattle.zh_count_tables.specs.declared.returned.Region.TheVariants.{Constituency}
-use Rattle.zh_count_tables.proofs.TotalsLemmas.{votes_counted}
+use Rattle.zh_totals.proofs.CallerLemmas.{votes_counted}
 use Rattle.zh_count_tables.proofs.votes.write_list.Goals as goal
 
 pub returns : goal.returns

@@ -20,7 +20,7 @@ returns-in_err-take g c canton holds =
     let (held, why) = rw c.in_err-take.was at (c.take.ensures canton rows holds') in
     rw is (λ text has.
     let next = rw (c.in_ok-next_record.was, found) at (c.next_record.ensures text (names ∷ map (g.T.Takes.kind canton).fields rows) (read text has)) in
-    refused_here (g.T.Takes.kind canton) text rows (fields_of c.next_record.new.record) c.in_err-take.field-0.0 held (are_first g.R.Read.remaining text _ c.next_record.new.reader next) why)
+    refused_here (g.T.Takes.kind canton) text rows (fields_of c.next_record.new.csv_record) c.in_err-take.field-0.0 held (are_first g.R.Read.remaining text _ c.next_record.new.reader next) why)
 
 pub loop-rows-preserved : goal.loop-rows-preserved
 loop-rows-preserved g c = record {
@@ -39,7 +39,7 @@ loop-rows-preserved g c = record {
         omega (arith, length_push rows row, count),
         λ text has.
             let next = rw (c.in_ok-next_record.was, found) at (c.next_record.ensures text (names ∷ map (g.T.Takes.kind canton).fields rows) (read text has)) in
-            given_more (g.T.Takes.kind canton) g.R.Read.remaining text rows (fields_of c.next_record.new.record) row c.next_record.new.reader is next,
+            given_more (g.T.Takes.kind canton) g.R.Read.remaining text rows (fields_of c.next_record.new.csv_record) row c.next_record.new.reader is next,
       );
 }
 

@@ -19,13 +19,13 @@ returns-then-not-branch g c canton holds text known =
       | then-not-branch-via-else-not-branch+then-not-is_names w ↦
           let found : c.in_ok-next_record.field-0 ≡ true = search rules in
           let next = rw (c.in_ok-next_record.was, found) at (c.next_record.ensures text [] begun) in
-          λ memory read. inl (refl, inr (fields_of c.next_record.new.record, are_first (front_left g.R.Read.remaining) text _ c.next_record.new.reader next, λ same. search rules))
+          λ memory read. inl (refl, inr (fields_of c.next_record.new.csv_record, are_first (front_left g.R.Read.remaining) text _ c.next_record.new.reader next, λ same. search rules))
     ]
 
 pub returns : goal.returns
 returns g c canton holds =
     let found : c.in_ok-next_record.field-0 ≡ true = search rules in
-    let same : fields_of c.next_record.new.record ≡ names = search rules in
+    let same : fields_of c.next_record.new.csv_record ≡ names = search rules in
     let kind = g.T.Takes.kind canton in
     reads_of kind (λ text. HasRead (front_left g.R.Read.remaining) text (names ∷ []) c.next_record.new.reader)
     (λ text. option_map front_of (g.R.Read.remaining c.args.text) ≡ Some text) _ c.take_rows.result

@@ -3,8 +3,9 @@ use Rattle.zh_matrices.specs.Asked.{asked}
 use Rattle.zh_decided.specs.Sweeps.{CanPass, step_at}
 use Rattle.zh_decided.specs.Prices.{cells, priced}
 use Rattle.zh_matrices.specs.Question.{Question}
+use Rattle.zh_matrices.proofs.CallerLemmas.{few-in-cell}
 use Rattle.zh_decided.proofs.TightLemmas.{differs, tight, turned-fair}
-use Rattle.zh_decided.proofs.CycleTurnLemmas.{AreTurned, AreTurned-more, AreTurned-start, cell-fitting, fits-turned, turned}
+use Rattle.zh_decided.proofs.CycleTurnLemmas.{AreTurned, AreTurned-more, AreTurned-start, fits-turned, turned}
 use Rattle.zh_decided.proofs.cycles.turn_cycle.Goals as goal
 
 pub loop-place-init : goal.loop-place-init
@@ -18,7 +19,7 @@ pass-requires-clause-few c =
       arith,
       c.loop-place.invariant.untouched c.loop-place.place (step_at c.args.cycle.now.steps c.loop-place.place).taker (omega arith)
           c.loop-place-test.true can.taker,
-      cell-fitting (asked c.args.question.now) c.args.seats.now c.requires.totals c.requires.fits (step_at c.args.cycle.now.steps
+      few-in-cell (asked c.args.question.now) c.args.seats.now c.requires.totals c.requires.fits.rows_add_up (step_at c.args.cycle.now.steps
           c.loop-place.place).taker
           (step_at c.args.cycle.now.steps c.loop-place.place).column can.taker can.column,
     )

@@ -9,7 +9,7 @@ use Rattle.zh_decided.proofs.ways.reach.Goals as goal
 pub loop-rank-init : goal.loop-rank-init
 loop-rank-init c = record {
   table = refl;
-  sources = tables.AreSources-none (asked_in c.args.bounds.now) (bounds_of c.args.bounds.now) c.args.seats.now c.args.ways.now (replicate 32 None) (tables.no_sources 32);
+  sources = tables.AreSources-none (asked_in c.args.bounds.now) (bounds_of c.args.bounds.now) c.args.seats.now c.args.ways.now (replicate 32 None) (tables.all_none 32);
   ways = tables.AreWays-none (asked_in c.args.bounds.now) (bounds_of c.args.bounds.now) c.args.seats.now c.args.ways.now c.requires.none;
   ranks = tables.RanksAreBelow-none (asked_in c.args.bounds.now) c.args.ways.now 0 c.requires.none;
   count = tables.count-none c.args.bounds.now.question.now.rows c.args.ways.now c.requires.none;

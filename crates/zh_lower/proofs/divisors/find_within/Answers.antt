@@ -1,10 +1,10 @@
 use Rattle.std.proofs.Common.{◌≡◌, ◌++◌, take, drop, length, true, rules, arith, sym, ◌∙◌}
 use Rattle.std.proofs.lemmas.Grind.{common_steps}
-use Rattle.std.proofs.lemmas.Bool.{false≢true, not-false}
+use Rattle.std.proofs.lemmas.Bool.{OnTrue_from, false≢true, not-false}
 use Rattle.zh_matrices.specs.Asked.{asked}
 use Rattle.zh_matrices.specs.Divisors.{millionths}
 use Rattle.zh_lower.specs.Rooms.{divisors_in}
-use Rattle.zh_lower.proofs.SecondLemmas.{follow-false, none-middle, none-strict, on-true, only_strict, within-of}
+use Rattle.zh_lower.proofs.SecondLemmas.{follow-false, none-middle, none-strict, only_strict, within-of}
 use Rattle.zh_lower.proofs.divisors.find_within.Goals as goal
 
 pub gives_from-requires-clause-only : goal.gives_from-requires-clause-only
@@ -31,7 +31,7 @@ returns-clause-second c =
     let taken : take c.args.room.now.greatest.len (c.settle.new.of_columns ++ drop (length c.settle.new.of_columns) c.args.room.now.greatest.items)
     ≡ c.settle.new.of_columns = first_of (search rules, grind (arith, common_steps), cc) in
     let passed : c.follows.result ≡ true = first_of (search (rules, not-false), grind arith, cc) in
-    on-true c.gives_from.result _ (λ gives.
+    OnTrue_from c.gives_from.result _ (λ gives.
     within-of (asked c.args.proposal.now.question.now) c.args.top c.args.proposal.now.seats.now c.settle.new.of_rows c.settle.new.of_columns
     (divisors_in c.gives_from.new.room) c.settle.ensures.enclose c.settle.ensures.rows c.settle.ensures.columns
     c.if-not-settle.ensures.rounds (rw (rows, columns) at (c.follows.ensures.0 passed)) (rw taken at (c.gives_from.ensures.middle gives)) (c.gives_from.ensures.strict gives))

@@ -1,10 +1,11 @@
 use Rattle.std.proofs.Common.{◌≡◌, ◌++◌, ◌^◌, take, drop, length, arith, rules}
+use Rattle.std.proofs.lemmas.Bool.{OnFalse_from}
 use Rattle.std.proofs.lemmas.Grind.{common_steps}
 use Rattle.zh_matrices.specs.Asked.{asked}
 use Rattle.zh_lower.specs.Rooms.{divisors_in}
 use Rattle.zh_lower.specs.Second.{scaled_down}
 use Rattle.zh_lower.proofs.MiddleLemmas.{scaled_down-within}
-use Rattle.zh_lower.proofs.SecondLemmas.{IsMiddle-scaled, IsMiddle-unscaled, none-in-middle, on-false}
+use Rattle.zh_lower.proofs.SecondLemmas.{IsMiddle-scaled, IsMiddle-unscaled, none-in-middle}
 use Rattle.zh_lower.proofs.divisors.gives_from.Goals as goal
 
 pub middle_gives-requires-clause-columns : goal.middle_gives-requires-clause-columns
@@ -36,7 +37,7 @@ returns-clause-middle c = λ _.
     c.middle_gives-2.ensures.middle (first_of (search rules, grind (arith, common_steps), cc))
 
 pub returns-clause-none : goal.returns-clause-none
-returns-clause-none c = on-false c.middle_gives-2.result _ (λ fails.
+returns-clause-none c = OnFalse_from c.middle_gives-2.result _ (λ fails.
     let taken : take c.args.room.now.of_columns.len (c.scale_down.new.into ++ drop (length c.scale_down.new.into) c.args.room.now.of_columns.items)
     ≡ c.scale_down.new.into = first_of (search rules, grind (arith, common_steps), cc) in
     none-in-middle (asked c.args.proposal.now.question.now) c.args.scale c.args.room.now.greatest.items c.args.proposal.now.seats.now c.scale_down.new.into

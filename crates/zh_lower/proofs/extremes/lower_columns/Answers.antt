@@ -3,8 +3,8 @@ use Rattle.std.proofs.lemmas.Bool.{false≢true}
 use Rattle.zh_matrices.specs.Asked.{asked}
 use Rattle.zh_lower.specs.Extremes.{IsGreatestColumn}
 use Rattle.zh_lower.proofs.ExtremeLemmas.{Enclose-column, NoneGive-column}
-use Rattle.zh_lower.proofs.RoundLemmas.{greatest-set, others-set, still-set}
-use Rattle.zh_lower.proofs.FilledLemmas.{AreWithin-set}
+use Rattle.zh_lower.proofs.RoundLemmas.{others-set}
+use Rattle.zh_lower.proofs.FilledLemmas.{AreWithin-set, each_set}
 use Rattle.zh_lower.proofs.extremes.lower_columns.Goals as goal
 use Rattle.zh_lower.proofs.extremes.lower_columns.Goals.{then-moved, else-moved}
 
@@ -28,16 +28,16 @@ loop-column-preserved c =
       columns = AreWithin-set _ _ _ _ _ (omega arith)
           (omega (arith, c.lowered-divisor.ensures.at_most, c.loop-column.invariant.columns.at_most c.loop-column.column 0 (omega (arith, c.loop-column.invariant.columns.one_each))))
           c.loop-column.invariant.columns;
-      greatest = greatest-set (asked c.args.proposal.now.question.now) c.args.proposal.now.seats.now c.args.of_rows.now c.args.of_columns.now c.loop-column.of_columns
-          c.loop-column.column c.lowered-divisor.result (omega (arith, c.loop-column.invariant.columns.one_each)) c.loop-column.invariant.greatest
-          (rw (c.loop-column.invariant.others c.loop-column.column (omega arith)) at one);
+      greatest = each_set (λ g x. IsGreatestColumn (asked c.args.proposal.now.question.now) c.args.proposal.now.seats.now c.args.of_rows.now g (get_or c.args.of_columns.now g 0) x)
+          c.loop-column.of_columns c.loop-column.column c.lowered-divisor.result (omega (arith, c.loop-column.invariant.columns.one_each))
+          (rw (c.loop-column.invariant.others c.loop-column.column (omega arith)) at one) c.loop-column.invariant.greatest;
       others = others-set c.loop-column.column c.lowered-divisor.result c.args.of_columns.now c.loop-column.of_columns c.loop-column.invariant.others;
       still = λ unmoved. elim c.if-moved.branch [
         | then-moved w ↦ absurd (false≢true (sym unmoved ∙ w.moved-is ∙ w.if-moved.true))
         | else-moved w ↦
             let at : c.lowered-divisor.result ≡ get_or c.loop-column.of_columns c.loop-column.column 0
             = same-number c.lowered-divisor.result (get_or c.loop-column.of_columns c.loop-column.column 0) (sym w.moved-is ∙ unmoved) in
-            still-set c.loop-column.column c.lowered-divisor.result c.args.of_columns.now c.loop-column.of_columns
+            each_set (λ k x. x ≡ get_or c.args.of_columns.now k 0) c.loop-column.of_columns c.loop-column.column c.lowered-divisor.result
             (omega (arith, c.loop-column.invariant.columns.one_each)) (at ∙ c.loop-column.invariant.others c.loop-column.column (omega arith))
             (c.loop-column.invariant.still w.if-moved.false)
       ];

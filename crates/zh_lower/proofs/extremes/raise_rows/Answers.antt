@@ -2,8 +2,8 @@ use Rattle.std.proofs.Common.{get_or, arith}
 use Rattle.zh_matrices.specs.Asked.{asked}
 use Rattle.zh_lower.specs.Extremes.{IsLeastRow}
 use Rattle.zh_lower.proofs.ExtremeLemmas.{Enclose-row, NoneGive-row}
-use Rattle.zh_lower.proofs.RoundLemmas.{least-set, others-set}
-use Rattle.zh_lower.proofs.FilledLemmas.{AreWithin-set}
+use Rattle.zh_lower.proofs.RoundLemmas.{others-set}
+use Rattle.zh_lower.proofs.FilledLemmas.{AreWithin-set, each_set}
 use Rattle.zh_lower.proofs.extremes.raise_rows.Goals as goal
 
 pub returns-then-divisor-from-clause-out : goal.returns-then-divisor-from-clause-out
@@ -22,9 +22,9 @@ loop-row-preserved c =
     record {
       rows = AreWithin-set _ _ _ _ _ (omega (arith, c.raised-divisor.ensures.at_least, c.loop-row.invariant.rows.from_1 c.loop-row.row 0 (omega (arith, c.loop-row.invariant.rows.one_each))))
           (omega arith) c.loop-row.invariant.rows;
-      least = least-set (asked c.args.proposal.now.question.now) c.args.proposal.now.seats.now c.args.of_columns.now c.args.of_rows.now c.loop-row.of_rows c.loop-row.row
-          c.raised-divisor.result (omega (arith, c.loop-row.invariant.rows.one_each)) c.loop-row.invariant.least
-          (rw (c.loop-row.invariant.others c.loop-row.row (omega arith)) at one);
+      least = each_set (λ d x. IsLeastRow (asked c.args.proposal.now.question.now) c.args.proposal.now.seats.now c.args.of_columns.now d (get_or c.args.of_rows.now d 0) x)
+          c.loop-row.of_rows c.loop-row.row c.raised-divisor.result (omega (arith, c.loop-row.invariant.rows.one_each))
+          (rw (c.loop-row.invariant.others c.loop-row.row (omega arith)) at one) c.loop-row.invariant.least;
       others = others-set c.loop-row.row c.raised-divisor.result c.args.of_rows.now c.loop-row.of_rows c.loop-row.invariant.others;
       enclose = λ top enclose.
           Enclose-row (asked c.args.proposal.now.question.now) top c.loop-row.row c.raised-divisor.result c.args.proposal.now.seats.now c.loop-row.of_rows c.args.of_columns.now

@@ -1,6 +1,6 @@
 use Rattle.std.proofs.Common.{inl, inr}
 use Rattle.zh_matrices.specs.Asked.{asked}
-use Rattle.zh_decided.proofs.CallerLemmas.{few-fitting}
+use Rattle.zh_matrices.proofs.CallerLemmas.{few-in-cells}
 use Rattle.zh_lower.proofs.FallbackLemmas.{few-strict}
 use Rattle.zh_lower.proofs.SecondLemmas.{follow-false, follow-true, none-second}
 use Rattle.zh_lower.proofs.fallback.seats_by_decision.Goals as goal
@@ -28,13 +28,13 @@ pub try_seats-requires-in-NearlyTied-clause-few : goal.try_seats-requires-in-Nea
 try_seats-requires-in-NearlyTied-clause-few c =
     let are = rw c.in-NearlyTied.is at c.requires.decides in
     rw c.deref-in-NearlyTied.ensures.value
-    (few-fitting (asked c.args.question.now) c.args.decided.now.findings.seats.items c.requires.proper.row_totals are.one_fits)
+    (few-in-cells (asked c.args.question.now) c.args.decided.now.findings.seats.items c.requires.proper.row_totals are.one_fits.one_each are.one_fits.rows_add_up)
 
 pub try_seats-requires-else-try_seats-clause-few : goal.try_seats-requires-else-try_seats-clause-few
 try_seats-requires-else-try_seats-clause-few c =
     let are = rw c.in-NearlyTied.is at c.requires.decides in
     rw c.deref-else-try_seats.ensures.value
-    (few-fitting (asked c.args.question.now) c.args.decided.now.findings.others.items c.requires.proper.row_totals are.other_fits)
+    (few-in-cells (asked c.args.question.now) c.args.decided.now.findings.others.items c.requires.proper.row_totals are.other_fits.one_each are.other_fits.rows_add_up)
 
 pub returns-else-try_seats-clause-later : goal.returns-else-try_seats-clause-later
 returns-else-try_seats-clause-later c =

@@ -4,7 +4,7 @@ use Rattle.zh_matrices.specs.Asked.{asked}
 use Rattle.zh_matrices.specs.Divisors.{millionths}
 use Rattle.zh_matrices.specs.Question.{Question, column_votes}
 use Rattle.zh_lower.specs.States.{middle_column}
-use Rattle.zh_lower.proofs.FilledLemmas.{AreWithin-filled, each_filled, filled}
+use Rattle.zh_lower.proofs.FilledLemmas.{AreWithin-filled, each_set}
 use Rattle.zh_lower.proofs.LineLemmas.{column_line, started_is}
 use Rattle.zh_lower.proofs.half_step.middle_columns.Goals as goal
 
@@ -22,12 +22,12 @@ loop-column-preserved c =
     let at_most : c.line.result ≤ 10 ^ 12 = grind arith in
     record {
       room = long;
-      done = filled (middle_column q (millionths c.args.of_rows.now c.args.of_columns.now)) c.loop-column.of_columns c.loop-column.column c.line.result within
+      done = each_set (λ k x. x ≡ middle_column q (millionths c.args.of_rows.now c.args.of_columns.now) k) c.loop-column.of_columns c.loop-column.column c.line.result within
           (started_is q.rows _ (10 ^ 12) (column_votes q c.loop-column.column) c.copy_column.new.into c.args.of_rows.now c.args.of_rows.now c.line.result
           long c.copy_column.ensures refl c.line.ensures)
           c.loop-column.invariant.done;
-      from_1 = each_filled (λ x. 1 ≤ x) c.loop-column.of_columns c.loop-column.column c.line.result within from_1 c.loop-column.invariant.from_1;
-      at_most = each_filled (λ x. x ≤ 10 ^ 12) c.loop-column.of_columns c.loop-column.column c.line.result within at_most c.loop-column.invariant.at_most;
+      from_1 = each_set (λ _ x. 1 ≤ x) c.loop-column.of_columns c.loop-column.column c.line.result within from_1 c.loop-column.invariant.from_1;
+      at_most = each_set (λ _ x. x ≤ 10 ^ 12) c.loop-column.of_columns c.loop-column.column c.line.result within at_most c.loop-column.invariant.at_most;
     }
 
 pub returns-clause-columns : goal.returns-clause-columns

@@ -10,7 +10,7 @@ use Rattle.zh_office.proofs.judging.judge_all.Goals as goal
 pub returns-in_err-progress : goal.returns-in_err-progress
 returns-in_err-progress g c =
     let is : c.from_residual.result ≡ Err c.in_err-progress.field-0.0 = search rules in
-    let first = fields_of c.args.record.now in
+    let first = fields_of c.args.csv_record.now in
     let Gave = GaveFirst g.R.Read.remaining first c.args.reader.now in
     let begins : AreFirstOf Gave (first ∷ []) = λ bytes has. are_first g.R.Read.remaining (front_of bytes) (first ∷ []) c.args.reader.now has in
     rw is (first_broken c.args.count.now first Gave _ _ c.in_err-progress.field-0.0 begins c.in_err-progress.ensures.front)
@@ -18,7 +18,7 @@ returns-in_err-progress g c =
 pub returns-in_err-judge_others : goal.returns-in_err-judge_others
 returns-in_err-judge_others g c =
     let is : c.from_residual-in_err-judge_others.result ≡ Err c.in_err-judge_others.field-0.0 = search rules in
-    let first = fields_of c.args.record.now in
+    let first = fields_of c.args.csv_record.now in
     let Gave = GaveFirst g.R.Read.remaining first c.args.reader.now in
     let after = c.in_ok-progress.ensures.begun.0 c.args.count.now in
     let broken = rw c.in_err-judge_others.was at (c.judge_others.ensures first after) in
@@ -26,7 +26,7 @@ returns-in_err-judge_others g c =
 
 pub returns : goal.returns
 returns g c =
-    let first = fields_of c.args.record.now in
+    let first = fields_of c.args.csv_record.now in
     let Gave = GaveFirst g.R.Read.remaining first c.args.reader.now in
     let after = c.in_ok-progress.ensures.begun.0 c.args.count.now in
     let judged = rw c.in_ok-judge_others.was at (c.judge_others.ensures first after) in

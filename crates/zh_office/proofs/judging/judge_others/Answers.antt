@@ -36,7 +36,7 @@ returns-in_err-take g c first after =
     let w = g.W.Write.contents c.args.out.now in
     let now = c.loop-number in
     let has = now.invariant.judged first after in
-    let fields = fields_of c.next_record.new.record in
+    let fields = fields_of c.next_record.new.csv_record in
     let next = c.next_record.new.reader in
     let gives : GivesNext g.R.Read.remaining fields now.reader next = λ bytes given read.
     rw (c.in_ok-next_record.was, found) at (c.next_record.ensures (front_of bytes) given read) in
@@ -48,7 +48,7 @@ loop-number-preserved g c =
     let found : c.in_ok-next_record.field-0 ≡ true = search rules in
     let w = g.W.Write.contents c.args.out.now in
     let now = c.loop-number in
-    let fields = fields_of c.next_record.new.record in
+    let fields = fields_of c.next_record.new.csv_record in
     let next = c.next_record.new.reader in
     let more = c.in_ok-take.ensures in
     let its = judgement c.args.count.now now.progress.rows (row_in fields) in

@@ -36,7 +36,7 @@ returns-then-not-branch g c =
 pub returns : goal.returns
 returns g c =
     let found : c.in_ok-next_record.field-0 ≡ true = search rules in
-    let Gave = GaveFirst (front_left g.R.Read.remaining) (fields_of c.next_record.new.record) c.next_record.new.reader in
+    let Gave = GaveFirst (front_left g.R.Read.remaining) (fields_of c.next_record.new.csv_record) c.next_record.new.reader in
     judges_of c.args.count.now Gave (λ bytes. g.R.Read.remaining c.args.text ≡ Some bytes) _ _ c.judge_all.result
     (λ bytes known.
     let starts = c.reader_of-reader.ensures (front_of bytes) (ap (option_map front_of) known) in

@@ -13,5 +13,5 @@ returns-in_err-line-clause-front g c =
 pub returns-in_err-put-clause-front : goal.returns-in_err-put-clause-front
 returns-in_err-put-clause-front g c =
     let is : c.from_residual-in_err-put.result ≡ Err faults.Write = search rules in
-    let text : c.deref.result.now ≡ line_by c.args.number (fields_of c.args.record.now) c.args.judgement = search rules in
+    let text : c.deref.result.now ≡ line_by c.args.number (fields_of c.args.csv_record.now) c.args.judgement = search rules in
     rw is ((refl, put_broke _ _ _ _ text c.in_err-put.ensures.front))

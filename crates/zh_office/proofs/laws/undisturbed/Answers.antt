@@ -1,5 +1,5 @@
-use Rattle.zh_office.proofs.UndisturbedLemmas.{each_line, one_line, one_text}
+use Rattle.zh_office.proofs.UndisturbedLemmas.{each_turn, one_turn}
 use Rattle.zh_office.proofs.laws.undisturbed.Goals as goal
 
 pub returns : goal.returns
-returns c = record { line = one_line; lines = each_line; load = one_text }
+returns c = record { turn = one_turn; run = each_turn }

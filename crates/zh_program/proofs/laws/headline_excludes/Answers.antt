@@ -8,7 +8,7 @@ use Rattle.zh_matrices.proofs.CallerLemmas.{only_seats}
 use Rattle.zh_sheet.specs.Distribution.{question_of}
 use Rattle.zh_program.proofs.ExcludeLemmas.{none_lost, none_new, none_on_half, none_other}
 use Rattle.zh_program.proofs.ToldLemmas.{none_early, none_late, none_unanswered}
-use Rattle.zh_program.specs.Exchanges.{count_by, log_of}
+use Rattle.zh_office.specs.Exchanges.{count_by, log_of}
 use Rattle.zh_program.proofs.laws.headline_excludes.Goals as goal
 
 pub returns-clause-lost : goal.returns-clause-lost

@@ -1,5 +1,4 @@
 use Rattle.std.proofs.Common.{refl}
-use Rattle.zh_program.proofs.RehearseLemmas.{blank_frames, rehearsed_blank}
 use Rattle.zh_program.proofs.run.rehearse.Goals as goal
 
 pub serve_rehearsal-result-requires : goal.serve_rehearsal-result-requires
@@ -11,6 +10,6 @@ returns g c = record {
   used = refl;
   rest = refl;
   said = c.announce-world.ensures;
-  served = rehearsed_blank _ _ _ _ _ c.serve_rehearsal-result.result c.serve_rehearsal-result.ensures.served (blank_frames _ _ c.new-film.ensures);
+  served = c.serve_rehearsal-result.ensures.served;
   reads = c.serve_rehearsal-result.ensures.reads;
 }

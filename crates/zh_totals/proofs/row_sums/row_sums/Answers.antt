@@ -1,7 +1,6 @@
 use Rattle.std.proofs.Common.{ℕ, ◌+◌, ◌*◌, arith}
-use Rattle.zh_divisors.proofs.CallerLemmas.{sum_to-suc, term-le-sum_to}
+use Rattle.zh_divisors.proofs.CallerLemmas.{sum_to-fewer, sum_to-suc, term-le-sum_to}
 use Rattle.zh_totals.specs.GivenVotes.{votes_from}
-use Rattle.zh_totals.proofs.GivenVotesLemmas.{sum_to-fewer}
 use Rattle.zh_totals.proofs.row_sums.row_sums.Goals as goal
 
 pub returns-in_default : goal.returns-in_default

@@ -1,6 +1,5 @@
 use Rattle.std.proofs.Common.{ℕ, ◌+◌, get_or, arith}
-use Rattle.zh_divisors.proofs.CallerLemmas.{sum_to-suc}
-use Rattle.zh_totals.proofs.GivenVotesLemmas.{sum_to-fewer}
+use Rattle.zh_divisors.proofs.CallerLemmas.{sum_to-fewer, sum_to-suc}
 use Rattle.zh_totals.proofs.row_sums.votes_from.Goals as goal
 
 pub returns-then-more-sum : goal.returns-then-more-sum

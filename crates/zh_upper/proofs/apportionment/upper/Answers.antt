@@ -1,11 +1,9 @@
-use Rattle.std.proofs.Common.{rules, ◌≤◌, ◌^◌, ◌∙◌, ap, arith}
+use Rattle.std.proofs.Common.{rules, ◌≤◌, ◌^◌, ◌∙◌, arith}
 use Rattle.std.proofs.lemmas.Grind.{common_steps}
 use Rattle.std.proofs.lemmas.Result.{err_from_is_err_and}
-use Rattle.zh_divisors.specs.Shares.{HasDivisor, RoundsEach}
-use Rattle.zh_upper.specs.UpperSeats.{of_participants}
 use Rattle.zh_upper.specs.declared.fault.UpperRefusal.TheVariants.{NoVoters}
 use Rattle.zh_upper.proofs.RefusalLemmas.{first_refused, none_refused, shares_refused, some_group, untied}
-use Rattle.zh_upper.proofs.ParticipantLemmas.{length-of_participants, length-of_participants-le, All-of_participants, of_shares}
+use Rattle.zh_upper.proofs.ParticipantLemmas.{length-of_participants, length-of_participants-le, All-of_participants}
 use Rattle.zh_upper.proofs.apportionment.upper.Goals as goal
 
 pub shares_of-requires-clause-at_most_32 : goal.shares_of-requires-clause-at_most_32
@@ -24,16 +22,12 @@ spread-requires c =
 
 pub returns-clause-divisor : goal.returns-clause-divisor
 returns-clause-divisor c =
-    let same = ap (λ seats. of_participants seats c.args.taking.now) c.new.ensures.seats ∙ (c.in_ok-seats.ensures.participants ∙ c.seats.ensures) in
-    of_shares (HasDivisor (of_participants c.args.voters.now c.args.taking.now)) c.in_ok-shares.shares c.new.result c.args.taking.now same
-    (omega (arith, c.new.ensures.num)) (omega (arith, c.new.ensures.den))
+    rw (c.new.ensures, c.num.ensures, c.den.ensures, c.in_ok-seats.ensures.participants, c.seats.ensures)
     (rw (c.deref-2.ensures.value, c.in_ok-sums.ensures) at c.in_ok-shares.ensures.divisor)
 
 pub returns-clause-rounds : goal.returns-clause-rounds
 returns-clause-rounds c =
-    let same = ap (λ seats. of_participants seats c.args.taking.now) c.new.ensures.seats ∙ (c.in_ok-seats.ensures.participants ∙ c.seats.ensures) in
-    of_shares (RoundsEach (of_participants c.args.voters.now c.args.taking.now)) c.in_ok-shares.shares c.new.result c.args.taking.now same
-    (omega (arith, c.new.ensures.num)) (omega (arith, c.new.ensures.den))
+    rw (c.new.ensures, c.num.ensures, c.den.ensures, c.in_ok-seats.ensures.participants, c.seats.ensures)
     (rw (c.deref-2.ensures.value, c.in_ok-sums.ensures) at c.in_ok-shares.ensures.rounds)
 
 pub returns-clause-seats : goal.returns-clause-seats

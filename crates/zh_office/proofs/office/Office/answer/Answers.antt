@@ -1,12 +1,11 @@
-use Rattle.std.proofs.Common.{◌≡◌, ◌<◌, ℕ, List, length, map, take, ap, subst, refl}
+use Rattle.std.proofs.Common.{◌<◌, ℕ, length, map, take, ap, subst, refl}
 use Rattle.std.specs.Io.KnownBytes.{Appends}
 use Rattle.std.proofs.lemmas.Result.{err_from_is_err_and}
 use Rattle.zh_film.specs.Frames.{frame_of, frames}
 use Rattle.zh_ledger.specs.Submissions.{OnDisk, on_disk}
+use Rattle.zh_office.specs.Exchanges.{answer_text}
 use Rattle.zh_office.specs.Office.{Office}
-use Rattle.zh_office.specs.Order.{Step}
-use Rattle.zh_office.specs.Runs.{answer_text}
-use Rattle.zh_office.specs.Served.{Session, session, step_of}
+use Rattle.zh_office.specs.Served.{Session, session}
 use Rattle.zh_office.proofs.FilmLemmas.{films_answer, films_front}
 use Rattle.zh_office.proofs.office.Office.answer.Goals as goal
 
@@ -22,18 +21,10 @@ returns-in_err-write_answer g c =
     let old : Session = session (contents c.args.writer.now) c.args.self.now (history c.args.disk.now) left (shown c.args.film.now) in
     let mid : Session = session (contents c.args.writer.now) after.holder after.history left (shown c.note.new.self) in
     let new : Session = session (contents c.write_answer.new.writer) after.holder after.history left (shown c.note.new.self) in
-    let step : Step = step_of c.args.bytes.now answer after in
-    let text : answer_text c.desk_of-desk.result after.holder.ledger.tally.accepted answer ≡ step.text =
-    ap (λ (d : ℕ). answer_text d after.holder.ledger.tally.accepted answer) c.desk_of-desk.ensures in
-    let front = subst (λ (written : List ℕ). (n : ℕ) × (n < length written) × Appends old.written new.written (take n written)) text c.in_err-write_answer.ensures.front in
-    rw p.1 (record {
-      answer = answer;
-      turn = c.line-answer.ensures.turn;
-      ok = tt;
-      err = front;
-      shown = tt;
-      broken = films_front old mid new step refl refl refl refl refl (ap (map (frame_of g.R.Read g.W.Write g.D.Disk)) c.note.ensures) refl front.0 front.2;
-    })
+    let front = subst (λ (desk : ℕ). (n : ℕ) × (n < length (answer_text desk after.holder.ledger.tally.accepted answer))
+    × Appends mid.written new.written (take n (answer_text desk after.holder.ledger.tally.accepted answer))) c.desk_of-desk.ensures c.in_err-write_answer.ensures.front in
+    rw p.1 (films_front c.args.bytes.now answer old mid new c.line-answer.ensures.turn refl refl refl refl
+    (ap (map (frame_of g.R.Read g.W.Write g.D.Disk)) c.note.ensures) refl front.0 front.1 front.2)
 
 pub returns : goal.returns
 returns g c =
@@ -46,16 +37,6 @@ returns g c =
     let old : Session = session (contents c.args.writer.now) c.args.self.now (history c.args.disk.now) left (shown c.args.film.now) in
     let mid : Session = session (contents c.args.writer.now) after.holder after.history left (shown c.note.new.self) in
     let new : Session = session (contents c.write_answer.new.writer) after.holder after.history left (shown c.note-2.new.self) in
-    let step : Step = step_of c.args.bytes.now answer after in
-    let text : answer_text c.desk_of-desk.result after.holder.ledger.tally.accepted answer ≡ step.text =
-    ap (λ (d : ℕ). answer_text d after.holder.ledger.tally.accepted answer) c.desk_of-desk.ensures in
-    let written = subst (Appends old.written new.written) text c.in_ok-write_answer.ensures.all in
-    record {
-      answer = answer;
-      turn = c.line-answer.ensures.turn;
-      ok = written;
-      err = tt;
-      shown = films_answer old mid new step refl refl refl refl refl
-          (ap (map (frame_of g.R.Read g.W.Write g.D.Disk)) c.note.ensures) (ap (map (frame_of g.R.Read g.W.Write g.D.Disk)) c.note-2.ensures) written;
-      broken = tt;
-    }
+    let written = subst (λ (desk : ℕ). Appends mid.written new.written (answer_text desk after.holder.ledger.tally.accepted answer)) c.desk_of-desk.ensures c.in_ok-write_answer.ensures.all in
+    films_answer c.args.bytes.now answer old mid new c.line-answer.ensures.turn refl refl refl refl
+    (ap (map (frame_of g.R.Read g.W.Write g.D.Disk)) c.note.ensures) (ap (map (frame_of g.R.Read g.W.Write g.D.Disk)) c.note-2.ensures) written

@@ -1,4 +1,4 @@
-use Rattle.std.proofs.Common.{rules, Ok}
+use Rattle.std.proofs.Common.{rules, refl, Ok}
 use Rattle.zh_office.proofs.OtherDeskLemmas.{others_after}
 use Rattle.zh_office.proofs.office.Office.line.Goals as goal
 
@@ -8,13 +8,9 @@ returns-in-Ok-clause-others g c =
 
 pub returns-in-Ok-clause-turn : goal.returns-in-Ok-clause-turn
 returns-in-Ok-clause-turn g c =
-    let (log, acts) = c.answer_to.ensures.acts in
     record {
       reading = Ok c.in-Ok.line;
-      reads = c.in-Ok.ensures.reads;
-      log = log;
-      acts = acts;
-      held = c.answer_to.ensures.held;
+      turn = record { reads = c.in-Ok.ensures.reads; command = refl; acts = c.answer_to.ensures.acts; held = c.answer_to.ensures.held; count = refl; disk = refl };
     }
 
 pub returns-in-Err-Syntax-clause-turn : goal.returns-in-Err-Syntax-clause-turn

@@ -1,4 +1,4 @@
-use Rattle.std.proofs.Common.{◌≡◌}
+use Rattle.std.proofs.Common.{◌≡◌, []}
 use Rattle.zh_film.specs.Frames.{frames, reads_in}
 use Rattle.zh_office.specs.Served.{session, TakesReads}
 use Rattle.zh_office.proofs.InputLemmas.{Serving}
@@ -11,7 +11,7 @@ invariant-loop g l =
     let history = g.D.Disk.history in
     let shown = frames g.R.Read g.W.Write g.D.Disk in
     record {
-      serving : Serving (session (contents l.fn.writer) l.fn.self (history l.fn.disk) (remaining l.fn.reader) (shown l.fn.film))
+      serving : Serving (session (contents l.fn.writer) l.fn.self (history l.fn.disk) (remaining l.fn.reader) [])
           (session (contents l.writer) l.self (history l.disk) (remaining l.reader) (shown l.film)) l.line.items l.count;
       reads : TakesReads (remaining l.fn.reader) (remaining l.reader) l.counter;
       asked : reads_in (shown l.film) ≡ l.counter;

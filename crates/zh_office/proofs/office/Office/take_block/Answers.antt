@@ -16,13 +16,13 @@ loop-ended-init g c = record {
 pub returns-in_err-answer : goal.returns-in_err-answer
 returns-in_err-answer g c =
     let p = err_from_is_err_and c.from_residual.result c.from_residual.ensures.1 in
-    rw p.1 (Progress-failed _ _ _ _ _ _ _ _ _ _ _ _ _ c.loop-ended.invariant.progress c.in-Some.ensures.0 c.in-Some.ensures.1
-    (c.deref.ensures.0 ∙ c.extend_line.ensures) c.answer.ensures c.in_err-answer.was)
+    rw p.1 (Progress-failed _ _ _ _ _ _ _ _ _ _ _ c.loop-ended.invariant.progress c.in-Some.ensures.0 c.in-Some.ensures.1
+    (c.deref.ensures.0 ∙ c.extend_line.ensures) (rw c.in_err-answer.was at c.answer.ensures))
 
 pub loop-ended-preserved : goal.loop-ended-preserved
 loop-ended-preserved g c = record {
-  progress = rw c.clear.ensures (Progress-answered _ _ _ _ _ _ _ _ _ _ _ _ _ c.loop-ended.invariant.progress c.in-Some.ensures.0
-      c.in-Some.ensures.1 (c.deref.ensures.0 ∙ c.extend_line.ensures) c.answer.ensures c.in_ok-answer.was);
+  progress = rw c.clear.ensures (Progress-answered _ _ _ _ _ _ _ _ _ _ _ c.loop-ended.invariant.progress c.in-Some.ensures.0
+      c.in-Some.ensures.1 (c.deref.ensures.0 ∙ c.extend_line.ensures) (rw c.in_ok-answer.was at c.answer.ensures));
   room = omega (arith, c.loop-ended.invariant.room, simp length-append at (ap length c.in-Some.ensures.1));
 }
 

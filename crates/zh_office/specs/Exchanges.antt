@@ -1,5 +1,7 @@
 -- What an office is given on its disk, one thing after the other, and what it answers.
-use Rattle.std.specs.Prelude.{◌≡◌, ℕ, List, [], ◌∷◌, ◌++◌, fold, map, take, Option, Some, None, IfSome, Result, Ok, Err}
+use Rattle.std.specs.Prelude.{◌≡◌, ◌<◌, ℕ, List, [], ◌∷◌, ◌++◌, flat_map, fold, length, map, take}
+use Rattle.std.specs.Prelude.{Option, Some, None, IfSome, Result, Ok, Err}
+use Rattle.std.specs.Io.KnownBytes.{Appends}
 use Rattle.zh_disk.specs.Disk.{Trail}
 use Rattle.zh_districts.specs.Canton.{Canton}
 use Rattle.zh_returns.specs.declared.command.Command.{Command}
@@ -20,29 +22,34 @@ use Rattle.zh_ledger.specs.Submissions.{Log, nothing, followed_by}
 use Rattle.zh_office.specs.Answers.{batch_of, command_of, held_after}
 use Rattle.zh_office.specs.declared.answer.Answer.{Answer}
 use Rattle.zh_office.specs.declared.answer.Answer.TheVariants.{Reply, Sheet}
-use Rattle.zh_office.specs.Runs.{answer_text}
+use Rattle.zh_sheet_text.specs.SheetText.{sheet_text}
 
 -- A line's bytes and what it parses as; or a loaded text, whose bytes may be unknown, and what it loads.
 pub data Given : Type 0 where
   line : List ℕ → Result Line LineFault → Given
   text : Option (List ℕ) → Result (List Row) LoadFault → Given
 
--- The line parses as this; or the text, if its bytes are known, has the header and then these rows, which load as a batch.
+-- The line parses as this; or the text, if its bytes are known, has the column names and then these rows, which load as a batch.
 abbrev pub IsReadRight : Canton → Given → Type 0
 IsReadRight canton (line bytes reading) = ParsesAs bytes reading
 IsReadRight canton (text bytes (Ok rows)) = AreLoaded canton rows × IfSome bytes (λ known. AreAll known (names ∷ map fields rows))
 IsReadRight canton (text bytes (Err fault)) = Unit {0}
 
--- The command that it gives, if any: for a line by what the desks hold, for a text all rows as one batch.
+-- The command that it gives, if any: for a line by the desks' batches, for a text all rows as one batch.
 abbrev pub command_given : Held → Given → Option Command
 command_given held (line bytes (Ok read)) = command_of read.desk (rows_of held read.desk) read.request
 command_given held (text bytes (Ok rows)) = batch_of 0 (Some rows)
 command_given held given = None
 
--- What the desks hold after this answer.
+-- The desks' batches after this answer.
 abbrev pub held_then : Held → Given → Answer → Held
 held_then held (line bytes (Ok read)) answer = held_after held read answer
 held_then held given answer = held
+
+-- The text of an answer to this desk, at this number of accepted commands.
+abbrev pub answer_text : ℕ → ℕ → Answer → List ℕ
+answer_text desk accepted (Reply reply) = replies.reply_text desk reply
+answer_text desk accepted (Sheet sheet is_final) = sheet_text sheet desk is_final accepted
 
 -- The text of the answer, at this number of accepted commands. A line's answer names its desk, a text's does not; 10 is LF.
 abbrev pub answer_to_given : Given → ℕ → Answer → List ℕ
@@ -84,7 +91,7 @@ log_of (x ∷ xs) = followed_by (log_by x.command x.answer) (log_of xs)
 abbrev pub count_by : Tally → Log → Tally
 count_by tally log = after tally (take log.acknowledged log.accepted)
 
--- What the desks hold after these exchanges.
+-- The desks' batches after these exchanges.
 abbrev pub held_by : Held → List Exchange → Held
 held_by = fold (λ held x. held_then held x.given x.answer)
 
@@ -95,3 +102,20 @@ disk_by = fold (λ disk x. x.disk)
 -- The text of the answer in an exchange.
 abbrev pub text_of : Exchange → List ℕ
 text_of x = answer_to_given x.given x.count.accepted x.answer
+
+-- The texts of the answers in these exchanges, one after the other.
+abbrev pub texts : List Exchange → List ℕ
+texts = flat_map text_of
+
+-- The lines of these exchanges; None for a text.
+abbrev pub lines_given : List Exchange → List (Option (List ℕ))
+lines_given = map (λ x. line_in x.given)
+
+-- Only a proper prefix of the last answer in these exchanges is written; the answers before it are written in full.
+pub record IsCutShort (old new : Option (List ℕ)) (exchanges : List Exchange) : Type 0 where
+  pub whole : List Exchange
+  pub last : Exchange
+  pub all : exchanges ≡ whole ++ last ∷ []
+  pub front : ℕ
+  pub part : front < length (text_of last)
+  pub written : Appends old new (texts whole ++ take front (text_of last))
