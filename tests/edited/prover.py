@@ -13,8 +13,8 @@ from pathlib import Path
 from edited.report import Report
 from edited.tree import PARTS
 
-# (so that a check that does not end is noticed)
-SECONDS = 45 * 60
+# (so that a check that does not end is noticed; a busy machine may take five times as long as a quiet one)
+SECONDS = 90 * 60
 KILLED = -9
 
 
@@ -62,6 +62,8 @@ class Prover:
 
     def call(self, words, folder):
         """What a command says in this folder, and its status."""
+        if self.is_stopped:
+            return "rattle: no verdict, since the run was ended", KILLED
         with subprocess.Popen(words, cwd=folder, stdin=subprocess.DEVNULL, stdout=subprocess.PIPE, stderr=subprocess.STDOUT, text=True,
                               errors="replace") as ran:
             self.running.add(ran)
