@@ -15,6 +15,7 @@ import pytest
 
 from places import PROGRAM, TOP
 
+pytest.register_assert_rewrite(*(it.stem for it in (TOP / "tests/desks").glob("*.py")))
 sys.dont_write_bytecode = True
 os.environ["PYTHONDONTWRITEBYTECODE"] = "1"  # of the scripts that are run
 # Scripts are run by the Python that runs the tests: one that is found by a shim takes ten times as long to start.

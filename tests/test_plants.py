@@ -39,7 +39,8 @@ UNREAD = {".md", ".pyc", "__pycache__", "out"}
 
 FIELDS = {"seen by", "says", "changes nothing", "old", "new"}
 # How a test fails that sees a mistake: by what it compares, or by a file or an end that does not come. Other faults are its own.
-SEEN = re.compile(r"^FAILED .*? - (?:AssertionError|Failed|FileNotFoundError|PermissionError|BrokenPipeError|subprocess\.\w+): (.*)", re.M)
+ERRORS = r"AssertionError|Failed|FileNotFoundError|PermissionError|BrokenPipeError|subprocess\.\w+"
+SEEN = re.compile(rf"= FAILURES =(?:.|\n)*?^E   (?:(?:{ERRORS}): (.*)(?:\nE   (assert .*))?|(assert .*))", re.M)
 LATE = re.compile(r"not after [\d.]+ seconds|.* timed out after [\d.]+ seconds")
 Plant = Dict[str, str]
 
@@ -104,14 +105,14 @@ def put(plant: Plant, folder: Path) -> None:
 
 
 def fault_of_pytest(part: str, test: str, top: Path, environment: Dict[str, str]) -> Optional[str]:
-    words = [sys.executable, "-m", "pytest", "-n0", "-x", "-rf", "--tb=no", "-p", "no:cacheprovider", f"tests/{part}/{test}"]
+    words = [sys.executable, "-m", "pytest", "-n0", "-x", "--tb=short", "-p", "no:cacheprovider", f"tests/{part}/{test}"]
     done = subprocess.run(words, cwd=top, env={**environment, "CI": "has lines of any length"}, stdout=subprocess.PIPE,
                           stderr=subprocess.STDOUT, text=True)
     if done.returncode == 0:
         return None
     found = SEEN.search(done.stdout)
     assert done.returncode == 1 and found, f"the test has a fault of its own: {done.stdout[-2000:]}"
-    return found[1]
+    return ": ".join(filter(None, found.groups()))
 
 
 def of_desks(test: str, folder: Path, room: Path, request: pytest.FixtureRequest) -> Optional[str]:

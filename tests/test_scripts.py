@@ -20,8 +20,8 @@ case "$1" in
         ;;
     run)
         mkdir -p out
-        printf '#!/bin/sh\nsed "s/^/proved %s: /"\n' "$(cat ../zh_low/src/lib.rt)" > out/zhcount
-        chmod +x out/zhcount
+        printf '#!/bin/sh\nsed "s/^/proved %s: /"\n' "$(cat ../zh_low/src/lib.rt)" > "out/${PWD##*/}"
+        chmod +x "out/${PWD##*/}"
         ;;
     try)
         sleep "${COMPILES:-1}"
@@ -58,10 +58,10 @@ def top(tmp_path):
 @pytest.fixture
 def sh(top):
     """Runs commands in the small copy: what they say, what they complain of, and their status."""
-    for crate in ("zh_low", "zh_test", "zhcount"):
+    for crate in ("zh_bench", "zh_low", "zhcount"):
         (top / "crates" / crate / "src").mkdir(parents=True)
         (top / "crates" / crate / "src/lib.rt").write_text(f"text of {crate}\n")
-    (top / "crates.txt").write_text("zh_low: thiserror\nzhcount: zh_low\nzh_test: zhcount\n")
+    (top / "crates.txt").write_text("zh_low: thiserror\nzhcount: zh_low\nzh_bench: zhcount\n")
     shutil.copytree(TOP / "scripts", top / "scripts")
     shutil.copy(TOP / "Makefile", top)
     (top / "bin").mkdir()
@@ -127,7 +127,7 @@ def test_what_was_built_runs_and_nothing_is_said_of_it(built):
     (CHANGE, UNPROVED),
     (f"{CHANGE}; {RUN}; {CHANGE_BACK}", PROVED),
     ("touch -d '+1 hour' $LOW", PROVED),
-    ("echo changed text > crates/zh_test/src/lib.rt", PROVED),  # zhcount does not stand on it
+    ("echo changed text > crates/zh_bench/src/lib.rt", PROVED),  # zhcount does not stand on it
     ("mkdir crates/zh_low/proofs; touch crates/zh_low/proofs/New.antt", UNPROVED),
     ("echo '# a remark' >> crates.txt", UNPROVED),
     ("sed -i 's/kit of/other &/' bin/rt", UNPROVED),  # another toolchain
@@ -137,6 +137,13 @@ def test_what_was_built_runs_and_nothing_is_said_of_it(built):
 def test_only_the_program_of_these_sources_is_called_proved(built, change, answer):
     built(change)
     assert built(RUN)[0] == answer
+
+
+@pytest.mark.parametrize("name", ["zhcount", "zh_bench"])
+def test_what_is_proved_is_not_proved_again(built, name):
+    built(f"scripts/build {name}")
+    assert built(f"scripts/build {name}")[0] == f"these sources are proved; the program is crates/{name}/out/{name}\n"
+    assert "zh_low proved, " in built(f"{CHANGE}; scripts/build {name}")[0]
 
 
 def test_a_build_that_is_refused_names_its_crate(built):
@@ -156,7 +163,7 @@ def test_sources_that_change_under_a_build_are_not_proved(built):
 def test_a_crate_that_is_not_there_is_refused(sh, command):
     said, errors, status = sh(command)
     assert status == 2 and "no crate 'zhcuont'" in errors and "proved" not in said + errors
-    assert sh("ls crates")[0] == "zh_low\nzh_test\nzhcount\n"
+    assert sh("ls crates")[0] == "zh_bench\nzh_low\nzhcount\n"
 
 
 def test_the_crates_below_one(sh):

@@ -4,7 +4,6 @@ import re
 import types
 
 from office import Office
-from processes import same
 
 NUMERAL = r"(0|[1-9]\d{0,9})"
 FORMS = {"return": 4, "row": 4, "withdraw": 3, "show": 2, "last": 2, "close": 1, "reopen": 1, "open": 0, "commit": 0, "drop": 0, "sheet": 0,
@@ -88,17 +87,17 @@ def counted(found, canton=REHEARSAL):
     count, lines = Count(canton), {}
     for it in found:
         if it.kind == "line":
-            same("a line that waits beside", {}, lines)
+            assert lines == {}, "a line that waits beside"
             lines[it.desk] = it.text
         elif it.kind == "answer":
             line = lines.pop(it.desk)
             wanted = count.answer(f"{it.desk} {line}")
             if not wanted.startswith("sheet ") or not re.match(f"{wanted} |refused (exhausted|tied)", it.text):  # these are proved
-                same(f"the answer to desk {it.desk}: {line}", wanted, it.text)
+                assert it.text == wanted, f"the answer to desk {it.desk}: {line}"
         elif it.kind == "loaded":
             count.become(**it.facts())
         elif it.kind == "start":
             for desk in it.facts()["dropped"]:
                 count.batches.pop(desk)
-    same("lines without an answer", {}, lines)
+    assert lines == {}, "lines without an answer"
     return count

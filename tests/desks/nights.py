@@ -8,7 +8,6 @@ import re
 from counting import Count
 from logs import Written, noted
 from places import PROGRAM, REHEARSAL, TOP
-from processes import same, that
 from room import Room
 
 WHOLE = re.compile(r"(?:^\d sheet (?:provisional|final) \d+\n(?:.*\n)*?end|^.*)\n", re.M)
@@ -91,18 +90,18 @@ class Night(Room):
         again = [f"{desk} {it}" for desk, rows in self.count.batches.items()
                  for it in ("open", *("row {} {} {} {}".format(*row) for row in rows))]
         said = [it[2:].rstrip("\n") for it in WHOLE.findall(self.zhcount("run", given="".join(f"{it}\n" for it in [*again, *lines])))]
-        same(f"answers to {lines}", len(again) + len(lines), len(said))
+        assert len(said) == len(again) + len(lines), f"answers to {lines}"
         for line, answer in zip(lines, said[len(again):]):
             self.before_last = copy.deepcopy(self.count)
             wanted = self.count.answer(line)
             if line[2:] not in ("sheet", "final"):  # whether there are seats is proved, and not in this model
-                same(f"the answer to {line}", wanted, answer)
+                assert answer == wanted, f"the answer to {line}"
         return said[len(again):]
 
     # What comes by hand, while no office runs
 
     def load(self, *rows):
-        same(f"the loading of {rows}", f"stored {self.count.commands + 1}\n", super().load(*rows))
+        assert super().load(*rows) == f"stored {self.count.commands + 1}\n", f"the loading of {rows}"
         self.count.load(*(tuple(map(int, it.split(","))) for it in rows))
         self.is_by_hand = True
 
@@ -127,14 +126,14 @@ class Night(Room):
         """What is said where no disk is made, and nothing is left."""
         before = sorted(os.listdir(self.path))
         said = self.rebuild(status=1)
-        same("the files beside", [it for it in before if it != self.new.name], sorted(os.listdir(self.path)))
-        that(f"it says so: {said}", "not made: " in said)
+        assert sorted(os.listdir(self.path)) == [it for it in before if it != self.new.name], "the files beside"
+        assert "not made: " in said, f"it says so: {said}"
         return said
 
     def both_refuse(self, text):
         """Replay and rebuild say this."""
         for said in (self.replay(status=1), self.refused()):
-            that(f"{text}: {said}", text in said)
+            assert text in said, f"{text}: {said}"
 
 
 def sum_of(data):

@@ -8,7 +8,7 @@ import pathlib
 import shutil
 
 from logs import events
-from processes import same, until
+from processes import until
 from room import Room
 
 RETURNS = ["return 1 1 1 525", "return 1 2 1 300", "return 1 3 1 175", "return 2 1 1 240", "return 2 2 1 330", "return 2 3 1 30",
@@ -121,15 +121,15 @@ def compare(room, lines, unconfirmed=None, shown=None):
     compare_folder(now, wanted, ["disk", "publish"])
     compare_folder(now / "publish", published(room, files))
     shutil.copyfile(now / "disk", copy)
-    same("the copy of the disk", wanted["held.csv"], room.zhcount("export", disk=copy))
+    assert room.zhcount("export", disk=copy) == wanted["held.csv"], "the copy of the disk"
     return now
 
 
 def compare_folder(folder, wanted, others=()):
     """The files of a folder are these, and others of which the content is not looked at."""
     for name, text in wanted.items():
-        same(f"{name} of {folder.name}", text, (folder / name).read_text())
-    same(f"nothing else is in {folder.name}", sorted([*wanted, *others]), sorted(it.name for it in folder.iterdir()))
+        assert (folder / name).read_text() == text, f"{name} of {folder.name}"
+    assert sorted(it.name for it in folder.iterdir()) == sorted([*wanted, *others]), f"nothing else is in {folder.name}"
 
 
 def table_of_lines(folder):

@@ -2,7 +2,7 @@
 import re
 import signal
 
-from processes import HAS_ENDED, same, that, until
+from processes import HAS_ENDED, until
 
 BEFORE = re.compile(r"zhcount-desk: before: (.*?): (.*)")
 
@@ -37,7 +37,7 @@ class Person:
         if answer != HAS_ENDED:
             return answer
         status = self.desk.wait()
-        that(f"desk {self.number} ends with {status}: {self.desk.said()}", self.is_excused(status))
+        assert self.is_excused(status), f"desk {self.number} ends with {status}: {self.desk.said()}"
         self.desk = None
         return None
 
@@ -56,10 +56,10 @@ class Person:
         if found and found[1] == line and not (shown and shown[-1][0] == line):
             return found[2]
         if shown and not desk.has_ended():
-            same(f"what desk {self.number} speaks of", shown[-1], found and found.groups())
+            assert (found and found.groups()) == shown[-1], f"what desk {self.number} speaks of"
         return None
 
     def check(self):
         """What was shown is what the log has."""
         noted = [(line, re.sub(r"^(sheet \w+ \d+) .*", rf"{self.number} \1", answer)) for line, answer in self.room.of_desk(self.number)]
-        same(f"what is noted of desk {self.number}", self.typed, noted)
+        assert noted == self.typed, f"what is noted of desk {self.number}"

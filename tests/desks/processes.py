@@ -17,15 +17,6 @@ IN_VAIN, SHORTLY = os.environ.get("IN_VAIN", ""), 15
 HAS_ENDED = "(it has ended)"  # what a desk gives as its answer that has none
 
 
-def same(what, wanted, found):
-    if wanted != found:
-        raise AssertionError(f"{what}: {str(found)[-400:]!r}, wanted {str(wanted)[-400:]!r}")
-
-
-def that(what, holds):
-    same(what, True, bool(holds))
-
-
 def until(what, holds, seconds=SECONDS):
     """Waits until something holds, and gives it. Where it does not, `what` says that, or what it says by then as a function."""
     begun = time.monotonic()
@@ -43,7 +34,7 @@ def stays(what, holds, seconds=0.5):
     """Looks for so long whether something goes on holding."""
     end = time.monotonic() + seconds
     while time.monotonic() < end:
-        that(what, holds())
+        assert holds(), what
         time.sleep(0.01)
 
 
@@ -112,7 +103,7 @@ class Process:
     def ends_with(self, status, who):
         """It ends of itself, with this status; where it does not, what it said is said."""
         found = self.wait()
-        same(f"the end of {who}: {self.said()}", status, found)
+        assert found == status, f"the end of {who}: {self.said()}"
 
 
 class Desk(Process):
@@ -123,7 +114,7 @@ class Desk(Process):
     def talk(self, *exchanges):
         """Sends lines, each with the answer that it has to have: 'LINE -> ANSWER'. The desk."""
         for line, wanted in (it.split(" -> ") for it in exchanges):
-            same(f"the answer to {line}", wanted, self.send(line))
+            assert self.send(line) == wanted, f"the answer to {line}"
         return self
 
     def send(self, line):

@@ -7,7 +7,6 @@ import re
 import shutil
 import tempfile
 
-from processes import same
 from room import SCRIPTS, Room
 
 MADE = []  # folders that go with the tests
@@ -20,7 +19,7 @@ def edited(scripts, name, *edits):
     path = shutil.copytree(scripts, pathlib.Path(MADE[-1].name, "desks")) / name
     for pattern, new in edits:
         text, times = re.subn(pattern, new, path.read_text(), flags=re.MULTILINE)
-        same(f"places with {pattern} in {name}", 1, times)
+        assert times == 1, f"places with {pattern} in {name}"
         path.write_text(text)
     py_compile.compile(str(path), doraise=True)
     return path.parent

@@ -16,10 +16,10 @@ import tempfile
 from counting import counted
 from logs import events
 from places import PROGRAM, REHEARSAL, TOP
-from processes import HAS_ENDED, SECONDS, Desk, Process, same, stand_still, stays, that, unread_by, until
+from processes import HAS_ENDED, SECONDS, Desk, Process, stand_still, stays, unread_by, until
 
-__all__ = ["HAS_ENDED", "MODES", "SCRIPTS", "SECONDS", "Desk", "Process", "Room", "let_in", "running", "same", "stand_still",
-           "stays", "that", "until"]
+__all__ = ["HAS_ENDED", "MODES", "SCRIPTS", "SECONDS", "Desk", "Process", "Room", "let_in", "running", "stand_still", "stays",
+           "until"]
 SCRIPTS = pathlib.Path(os.environ.get("DESKS", TOP / "desks"))
 FORMATTED = []  # folders that go with the tests
 MODES = {"night.db": "-rw-------", "night.db-wal": "-rw-------", "desk": "srw-rw----"}
@@ -70,7 +70,7 @@ class Room:
         if self.scripts != self.path / "scripts":
             self.scripts = shutil.copytree(self.scripts, self.path / "scripts")
         edited, times = re.subn(pattern, text, (self.scripts / name).read_text(), flags=re.MULTILINE)
-        same(f"places with {pattern} in {name}", 1, times)
+        assert times == 1, f"places with {pattern} in {name}"
         (self.scripts / name).write_text(edited)
 
     def stands_in(self, task):
@@ -89,7 +89,7 @@ class Room:
         path = self.path / "other.disk"
         path.unlink(missing_ok=True)
         for task, given in (("format", ""), ("run", "".join(f"1 {it}\n" for it in lines))):
-            same(task, 0, self.ran(task, disk=path, given=given).returncode)
+            assert self.ran(task, disk=path, given=given).returncode == 0, task
         return path
 
     def load(self, *rows):
@@ -97,7 +97,7 @@ class Room:
         path = self.path / "loaded.csv"
         path.write_text("".join(f"{it}\n" for it in ["municipality,list,number,votes", *rows]))
         found = self.ran("load", "--csv", path)
-        same(f"the loading of {rows}, which says {found.stderr}", 0, found.returncode)
+        assert found.returncode == 0, f"the loading of {rows}, which says {found.stderr}"
         return found.stdout
 
     def by_hand(self, *lines):
@@ -116,7 +116,7 @@ class Room:
         self.office = self.process(Process, words)
         if is_awaited:
             self.await_start()
-            that(f"the office starts: {self.office.said()}", self.serves())
+            assert self.serves(), f"the office starts: {self.office.said()}"
         return self.office
 
     def serves(self):
@@ -137,7 +137,7 @@ class Room:
         """The office does not start, but ends with this status, and says these texts."""
         self.start(is_awaited=False)
         self.await_start()
-        that(f"no start, but {texts}", not self.serves())
+        assert not self.serves(), f"no start, but {texts}"
         self.ends(status, *texts)
 
     def stop(self, number=signal.SIGTERM):
@@ -177,7 +177,7 @@ class Room:
         """What zhcount-office says with these arguments, and ends with this status."""
         ran = subprocess.run(self.script("zhcount-office", *words), env={**os.environ, **self.environment}, capture_output=True,
                              text=True, timeout=SECONDS)
-        same(f"the status of {words[0]}, which says {ran.stdout}{ran.stderr}", status, ran.returncode)
+        assert ran.returncode == status, f"the status of {words[0]}, which says {ran.stdout}{ran.stderr}"
         return ran.stdout + ran.stderr
 
     def replay(self, status=0):
@@ -252,17 +252,17 @@ class Room:
         """Ends the office, if it runs: each line has one answer, which is that of the manual, the disk has what follows from the lines, and
         a replay says the same."""
         if not self.office.has_ended():
-            same(f"the end of the office: {self.office.said()}", 0, self.stop())
+            assert self.stop() == 0, f"the end of the office: {self.office.said()}"
         count = self.compare(sent)
-        same("the export", count.export(), self.zhcount("export"))
-        same("the commands", count.commands, self.events()[-1].facts()["commands"])
+        assert self.zhcount("export") == count.export(), "the export"
+        assert self.events()[-1].facts()["commands"] == count.commands, "the commands"
         return self.replay()
 
     def compare(self, sent):
         """Looks whether each line in the log has one answer, which is that of the manual; and of these desks what they sent. The count."""
         count = counted(self.events())
         for number in sent:
-            same(f"the lines of desk {number}", sent[number], [text for text, _ in self.of_desk(number)])
+            assert [text for text, _ in self.of_desk(number)] == sent[number], f"the lines of desk {number}"
         return count
 
 

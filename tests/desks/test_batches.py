@@ -2,7 +2,6 @@
 import pytest
 
 from places import PROGRAM
-from room import same, that
 
 
 def test_batch_is_left_open(room):
@@ -13,11 +12,11 @@ def test_batch_is_left_open(room):
     room.restart()
     desk = room.ask(5, "drop")
     desk.says(text)
-    same("the answer", ["dropped 1"], desk.out)
+    assert desk.out == ["dropped 1"], "the answer"
     room.restart()
     desk = room.ask(5, "commit")
-    same("a batch that was dropped", ["refused nobatch"], desk.out)
-    that(f"it is not spoken of: {desk.said()}", "batch" not in desk.said())
+    assert desk.out == ["refused nobatch"], "a batch that was dropped"
+    assert "batch" not in desk.said(), f"it is not spoken of: {desk.said()}"
 
 
 def test_batches_are_given_again(room):
@@ -26,18 +25,19 @@ def test_batches_are_given_again(room):
     room.ask(5, "open", "row 1 1 1 525", "row 1 2 1 300")
     room.ask(6, "open", "row 2 1 1 240", "commit")
     room.ask(7, "open", "row 2 2 1 330", "drop")
-    same("it was entered before", "same", room.ask(8, "open", "row 2 1 1 240", "commit").out[-1])
-    same("it is refused", "refused gap", room.ask(4, "open", "row 1 1 2 525", "commit").out[-1])
+    assert room.ask(8, "open", "row 2 1 1 240", "commit").out[-1] == "same", "it was entered before"
+    assert room.ask(4, "open", "row 1 1 2 525", "commit").out[-1] == "refused gap", "it is refused"
     for _ in range(2):
         room.restart()
-    same("it is still open", ["refused gap", "dropped 1"], room.ask(4, "commit", "drop").out)
+    assert room.ask(4, "commit", "drop").out == ["refused gap", "dropped 1"], "it is still open"
     desk = room.ask(5, "row 1 3 1 120", "commit", "show 1 1")
     desk.says("before: row 1 2 1 300: held 2", "a batch is open; its rows: 2; 'commit' or 'drop' it")
-    same("its answers", ["held 3", "stored 2", "shows 1 525"], desk.out)
+    assert desk.out == ["held 3", "stored 2", "shows 1 525"], "its answers"
     for number in (6, 7, 8):
         desk = room.ask(number, "commit")
-        same(f"desk {number}", (["refused nobatch"], False), (desk.out, "a batch is open" in desk.said()))
-    same("its lines", ["open", "row 1 1 1 525", "row 1 2 1 300", "row 1 3 1 120", "commit", "show 1 1"], [it for it, _ in room.of_desk(5)])
+        assert (desk.out, "a batch is open" in desk.said()) == (["refused nobatch"], False), f"desk {number}"
+    lines = ["open", "row 1 1 1 525", "row 1 2 1 300", "row 1 3 1 120", "commit", "show 1 1"]
+    assert [it for it, _ in room.of_desk(5)] == lines, "its lines"
     room.check()
 
 
@@ -50,10 +50,10 @@ def test_batch_that_does_not_fit(room, line, answer):
     desk = room.ask(5, end="")
     desk.says("the batch is dropped, because the office could not replay it: row 1 2 1 300: refused memory; open it, and send its rows",
               f"before: {line}: {answer}")
-    same("nothing of it is left", ["held 0", "dropped 0"], room.ask(5, "open", "drop").out)
+    assert room.ask(5, "open", "drop").out == ["held 0", "dropped 0"], "nothing of it is left"
     room.environment["ZHCOUNT"] = str(PROGRAM)
     room.restart()
     desk = room.ask(5, "open", "row 1 1 1 525", "commit")
-    same("it does not come back", ["held 0", "held 1", "stored 1"], desk.out)
-    that(f"it is not spoken of: {desk.said()}", "a batch is open" not in desk.said())
+    assert desk.out == ["held 0", "held 1", "stored 1"], "it does not come back"
+    assert "a batch is open" not in desk.said(), f"it is not spoken of: {desk.said()}"
     room.check()

@@ -10,7 +10,7 @@ import night
 import office as offices
 from now import CLOSINGS, RETURNS, QuickRoom, compare_folder, model, published
 from places import PROGRAM, TOP
-from processes import same, that, until
+from processes import until
 from room import running
 
 ROOM = QuickRoom
@@ -28,8 +28,8 @@ def test_sheet_is_final_where_a_desk_asked_for_it(new_room):
     desk.talk("final -> refused notclosed 1", *(f"{line} -> stored {number}" for number, line in enumerate(sent, 1)),
               'x,final,sheet final 12 0 , -> refused syntax')
     has_bundle(new_room, sent)
-    that("it is provisional", text_of(new_room, "publish/sheet.txt").startswith("1 sheet provisional 12\n"))
-    that("a final sheet is shown", desk.send("final").startswith("5 sheet final 12\n"))
+    assert text_of(new_room, "publish/sheet.txt").startswith("1 sheet provisional 12\n"), "it is provisional"
+    assert desk.send("final").startswith("5 sheet final 12\n"), "a final sheet is shown"
     until("it is final", lambda: text_of(new_room, "publish/sheet.txt").startswith("1 sheet final 12\n"))
     has_bundle(new_room, sent, "final")
     desk.talk("reopen 1 -> stored 13", "close 1 -> stored 14")
@@ -41,7 +41,7 @@ def has_bundle(room, lines, line="sheet"):
     """Waits for the files after these lines, all stored, which are those of a sheet that is asked for by this line."""
     now, files = room.shows(len(lines)), model(room, lines, ["--final"] if line == "final" else [])
     compare_folder(now / "publish", published(room, files, line))
-    same("the seats", files["seats"], (now / "seats").read_text())
+    assert (now / "seats").read_text() == files["seats"], "the seats"
 
 
 def text_of(room, name):
@@ -57,12 +57,12 @@ def test_page_and_modes(new_room):
     office = new_room.start()
     new_room.ask(1, *RETURNS)
     now = new_room.shows(9)
-    same("the page", (TOP / "page/index.html").read_bytes(), (now / "publish/index.html").read_bytes())
-    same("the modes", {0o755, 0o644}, {it.stat().st_mode & 0o7777 for it in (now / "publish", *(now / "publish").iterdir())})
-    that("the sheet is there", (now / "publish/sheet.txt").exists())
-    that("the copy is not run", not (new_room.path / "runs").exists())
-    same("the copy", new_room.disk.read_bytes(), (now / "disk").read_bytes())
-    that("nothing is said of the page", "the page" not in office.said())
+    assert (now / "publish/index.html").read_bytes() == (TOP / "page/index.html").read_bytes(), "the page"
+    assert {it.stat().st_mode & 0o7777 for it in (now / "publish", *(now / "publish").iterdir())} == {0o755, 0o644}, "the modes"
+    assert (now / "publish/sheet.txt").exists(), "the sheet is there"
+    assert not (new_room.path / "runs").exists(), "the copy is not run"
+    assert (now / "disk").read_bytes() == new_room.disk.read_bytes(), "the copy"
+    assert "the page" not in office.said(), "nothing is said of the page"
     new_room.stop()
 
 
@@ -70,9 +70,9 @@ def test_without_the_page(room):
     """where the page is not installed, that is said once, and the bundle goes without it"""
     room.shows(0)
     room.ask(1, RETURNS[0])
-    same("the files", ["held.csv", "no-seats", "setup.toml", "vote-groups.csv", "votes.csv"],
-         sorted(it.name for it in (room.shows(1) / "publish").iterdir()))
-    same("how often it is said", 1, room.office.said().count("the page that checks a sheet is not installed"))
+    files = ["held.csv", "no-seats", "setup.toml", "vote-groups.csv", "votes.csv"]
+    assert sorted(it.name for it in (room.shows(1) / "publish").iterdir()) == files, "the files"
+    assert room.office.said().count("the page that checks a sheet is not installed") == 1, "how often it is said"
     room.stop()
 
 
@@ -89,7 +89,7 @@ def test_child_that_fails(new_room):
         new_room.start()
         new_room.shows(number - 1)
         new_room.held.touch()
-        same("the answer", [f"stored {number}"], new_room.ask(2, f"return 1 1 {number - 8} 525").out)
+        assert new_room.ask(2, f"return 1 1 {number - 8} 525").out == [f"stored {number}"], "the answer"
         new_room.office.says(f"zhcount-office: `now` could not be renewed: {text}")
         new_room.held.unlink()
         new_room.shows(number)
@@ -136,7 +136,7 @@ def test_a_cantons_night():
                 desk.taken += len(own)
             until("all is answered", lambda: all(len(desk.out) == desk.taken for desk in desks.values()))
             check_bundle(room.shows(moments.office.commands) / "publish", moments)
-        that("a final sheet", desks[1].send("final").startswith("1 sheet final "))
+        assert desks[1].send("final").startswith("1 sheet final "), "a final sheet"
         until("it is in the bundle", lambda: text_of(room, "publish/sheet.txt").startswith("1 sheet final "))
         check_bundle(room.folder / "now/publish", moments)
         room.stop()
@@ -145,23 +145,23 @@ def test_a_cantons_night():
 def check_bundle(folder, moments):
     """The files of a bundle are of one moment."""
     canton, rows, has_seats = moments.canton, table(folder / "held.csv"), moments.office.on_sheet(1).startswith("sheet")
-    same("the votes held", moments.votes(), sum(int(it["votes"]) for it in rows if it["votes"] != "withdrawn"))
+    assert sum(int(it["votes"]) for it in rows if it["votes"] != "withdrawn") == moments.votes(), "the votes held"
     sums = collections.Counter()
     for it in rows:
         votes = 0 if it["votes"] == "withdrawn" else int(it["votes"])
         sums[str(canton.constituency_of[int(it["municipality"]) - 1]), it["list"]] += votes
         sums[it["list"]] += votes
-    same("the votes of the lists", {it: sums[it] for it in sums if isinstance(it, tuple)},
-         {(it["constituency"], it["group"]): int(it["votes"]) for it in table(folder / "votes.csv") if int(it["held"])})
-    same("the votes of the groups", [sums[str(g)] for g in range(1, len(cantons.LISTS) + 1)],
-         [int(it["votes"]) for it in table(folder / "vote-groups.csv")])
-    same("whether there are seats", (has_seats, not has_seats), ((folder / "sheet.txt").exists(), (folder / "no-seats").exists()))
+    lists = {(it["constituency"], it["group"]): int(it["votes"]) for it in table(folder / "votes.csv") if int(it["held"])}
+    assert lists == {it: sums[it] for it in sums if isinstance(it, tuple)}, "the votes of the lists"
+    groups = [int(it["votes"]) for it in table(folder / "vote-groups.csv")]
+    assert groups == [sums[str(g)] for g in range(1, len(cantons.LISTS) + 1)], "the votes of the groups"
+    assert ((folder / "sheet.txt").exists(), (folder / "no-seats").exists()) == (has_seats, not has_seats), "whether there are seats"
     tables = ["votes.csv", "vote-groups.csv", *(["seats.csv", "seat-groups.csv", "seat-constituencies.csv"] if has_seats else [])]
-    same("the commands", {str(moments.office.commands)}, {it["commands"] for name in tables for it in table(folder / name)})
+    assert {it["commands"] for name in tables for it in table(folder / name)} == {str(moments.office.commands)}, "the commands"
     if has_seats:
         words = ["--setup", folder / "setup.toml", "--sheet", folder / "sheet.txt", "--held", folder / "held.csv"]
         checked = subprocess.run([PROGRAM, "check", *words], stdout=subprocess.PIPE, text=True)
-        that(f"the sheet is right: {checked.stdout}", checked.stdout.splitlines()[-1].startswith("sheet ok") and not checked.returncode)
+        assert checked.stdout.splitlines()[-1].startswith("sheet ok") and not checked.returncode, f"the sheet is right: {checked.stdout}"
 
 
 def table(path):

@@ -17,7 +17,7 @@ from logs import events
 from now import command_of
 from people import Person
 from quiet import QuietRoom, patient_scripts
-from room import same, that, until
+from room import until
 
 pytestmark = [pytest.mark.long, pytest.mark.xdist_group("chance")]
 KILLS, SEED = int(os.environ.get("KILLS", "15")), int(os.environ.get("SEED", "86"))
@@ -43,7 +43,7 @@ class Worker(Person):
                 self.night.seen.held[tuple(map(int, line.split()[1:3]))] = int(line.split()[3]), None
         if self.desk:
             status = self.desk.end()  # the last kill may have come after its last answer
-            that(f"desk {self.number} ends with {status}: {self.desk.said()}", status in (0, -signal.SIGKILL))
+            assert status in (0, -signal.SIGKILL), f"desk {self.number} ends with {status}: {self.desk.said()}"
 
     def is_excused(self, status):
         return super().is_excused(status) or "another connection has this desk" in self.desk.said()  # the one before was just killed
@@ -85,7 +85,7 @@ class Night:
         """Starts the office again, as systemd would."""
         if self.room.office.has_ended():
             status = self.room.office.wait()
-            that(f"the office ends with {status}: {self.room.office.said()}", status in (1, -signal.SIGKILL))
+            assert status in (1, -signal.SIGKILL), f"the office ends with {status}: {self.room.office.said()}"
             self.room.start(is_awaited=False)
 
     def go_on(self):
@@ -114,9 +114,9 @@ def check(night):
     for it in night.people:
         it.check()
     stored = [it.text for it in room.events() if it.kind == "answer" and it.text.startswith("stored ")]
-    same("the commands", [f"stored {number}" for number in range(1, len(stored) + 1)], stored)
-    that(f"commands were stored: {len(stored)}", len(stored) > 5)
-    same("the export of the disk made anew", room.zhcount("export"), room.rebuilt())
+    assert stored == [f"stored {number}" for number in range(1, len(stored) + 1)], "the commands"
+    assert len(stored) > 5, f"commands were stored: {len(stored)}"
+    assert room.rebuilt() == room.zhcount("export"), "the export of the disk made anew"
 
 
 @pytest.mark.parametrize("has_witness", [False, True], ids=["alone", "with a witness"])

@@ -9,7 +9,7 @@ import subprocess
 import pytest
 
 from quiet import QuietRoom
-from room import SECONDS, let_in, running, same, stand_still, that
+from room import SECONDS, let_in, running, stand_still
 
 
 def put_aside(room):
@@ -29,13 +29,13 @@ def test_another_log(room):
     room.stop()
     put_aside(room)
     room.start()
-    same("another connection", ["stored 1"], room.ask(3, "return 3 1 1 555").out)
+    assert room.ask(3, "return 3 1 1 555").out == ["stored 1"], "another connection"
     desk.write("return 3 3 1 777\n")
     desk.kill(signal.SIGCONT)
-    same("its end", 1, desk.wait())
-    same("what it shows", ["stored 1"], desk.out)
+    assert desk.wait() == 1, "its end"
+    assert desk.out == ["stored 1"], "what it shows"
     desk.says("desk 3: the office has another log, or other lines of this desk, by now: connect again")
-    same("connected again", ["none"], room.ask(3, "show 3 3").out)
+    assert room.ask(3, "show 3 3").out == ["none"], "connected again"
 
 
 def test_another_log_while_it_waits(room):
@@ -45,10 +45,10 @@ def test_another_log_while_it_waits(room):
     put_aside(room)
     room.start()
     for desk in (waits, is_idle):
-        same("its end", 1, desk.wait())
+        assert desk.wait() == 1, "its end"
         desk.says("the office has another log, or ")
     waits.says("without an answer: return 3 1 1 90")
-    same("connected again", ["none"], room.ask(3, "show 3 1").out)
+    assert room.ask(3, "show 3 1").out == ["none"], "connected again"
 
 
 def test_older_copy_of_the_log(room):
@@ -61,9 +61,9 @@ def test_older_copy_of_the_log(room):
     (room.folder / "night.db").write_bytes(copied)
     (room.folder / "night.db-wal").unlink()
     room.start()
-    same("its end", 1, desk.wait())
+    assert desk.wait() == 1, "its end"
     desk.says("other lines of this desk, by now: connect again", "without an answer: return 3 1 1 90")
-    same("it was not sent", ["none"], room.ask(3, "show 3 1").out)
+    assert room.ask(3, "show 3 1").out == ["none"], "it was not sent"
 
 
 def test_lines_of_another_connection(room):
@@ -72,9 +72,9 @@ def test_lines_of_another_connection(room):
     stand_still(first.process.pid)
     first.write("close 1\n")
     room.restart()
-    same("another connection", ["stored 2"], room.ask(7, "return 1 1 2 530").out)
+    assert room.ask(7, "return 1 1 2 530").out == ["stored 2"], "another connection"
     first.kill(signal.SIGCONT)
-    same("its end", 1, first.wait())
+    assert first.wait() == 1, "its end"
     first.says("other lines of this desk, by now: connect again")
     room.check({7: ["return 1 1 1 525", "return 1 1 2 530"]})
 
@@ -85,21 +85,21 @@ def test_lines_of_another_connection(room):
 def test_second_connection(room):
     """of two connections with one number the second is refused, and told who has the desk since when, until the first has ended"""
     first = room.desk(7)
-    same("the first", "none", first.send("show 1 1"))
+    assert first.send("show 1 1") == "none", "the first"
     second = room.ask(7, "show 1 1")
-    same("the second", (1, []), (second.status, second.out))
+    assert (second.status, second.out) == (1, []), "the second"
     name = pwd.getpwuid(os.geteuid()).pw_name
     wanted = rf"desk 7: another connection has this desk: of {name} since \d\d:\d\d:\d\d$"
-    that(f"it is said: {second.said()}", re.search(wanted, second.said(), re.M))
-    same("the first goes on", "none", first.send("show 1 2"))
+    assert re.search(wanted, second.said(), re.M), f"it is said: {second.said()}"
+    assert first.send("show 1 2") == "none", "the first goes on"
     first.kill()
     first.wait()
-    same("the second then", ["none"], room.ask(7, "show 1 3").out)
+    assert room.ask(7, "show 1 3").out == ["none"], "the second then"
     desk = room.desk(8)
     desk.send("show 1 1")
     desk.process.stdout.close()
     desk.write("show 1 1\n")
-    same("nobody hears it: it ends", 1, desk.wait())
+    assert desk.wait() == 1, "nobody hears it: it ends"
 
 
 SILENT = 20  # seconds
@@ -145,8 +145,8 @@ def test_taken_over(clock_room, has_typed):
     second.says("before: return 1 1 1 525: stored 1")
     second.talk("return 1 1 2 530 -> stored 2")
     first.kill(signal.SIGCONT)
-    same("the end of the first", 1, first.wait())
-    that(f"it says why: {first.said()}", re.search(r"desk 7: \w+ has taken this desk over", first.said()))
+    assert first.wait() == 1, "the end of the first"
+    assert re.search(r"desk 7: \w+ has taken this desk over", first.said()), f"it says why: {first.said()}"
     second.talk("show 1 1 -> shows 2 530").end()
     room.check({7: ["return 1 1 1 525", "return 1 1 2 530", "show 1 1"]})
 
@@ -160,7 +160,7 @@ def test_no_busy_desk_is_taken(clock_room):
         with socket.socket(socket.AF_UNIX) as at:
             at.connect(str(clock_room.folder / "desk"))
             at.sendall(b'{"desk": 7}\n')
-            that(f"another one is refused after line {line}", b"another connection has this desk" in at.recv(1000))
+            assert b"another connection has this desk" in at.recv(1000), f"another one is refused after line {line}"
 
 
 # Streams
@@ -176,10 +176,10 @@ def test_closed_streams(room):
                              capture_output=True, timeout=SECONDS)
         return ran.returncode, ran.stdout, re.sub(".*before: .*\n|.*, start .*\n|.*: waiting\n", "", ran.stderr)
 
-    same("without input", (0, "", ""), shown("<&-"))
-    same("without error", (0, "shows 1 525\n", ""), shown("2>&-"))
+    assert shown("<&-") == (0, "", ""), "without input"
+    assert shown("2>&-") == (0, "shows 1 525\n", ""), "without error"
     status, _, error = shown(">&-")
-    that(f"without output: {status} {error}", status == 1 and "Bad file descriptor" in error)
-    same("with none", 0, shown("<&- >&- 2>&-")[0])
-    same("the lines that came", ["return 1 1 1 525", "show 1 1", "show 1 1"], [it for it, _ in room.of_desk(3)])
+    assert status == 1 and "Bad file descriptor" in error, f"without output: {status} {error}"
+    assert shown("<&- >&- 2>&-")[0] == 0, "with none"
+    assert [it for it, _ in room.of_desk(3)] == ["return 1 1 1 525", "show 1 1", "show 1 1"], "the lines that came"
     room.ask(3, end="").says("before: show 1 1: shows 1 525")

@@ -11,7 +11,7 @@ import pytest
 
 from now import NEVER, RETURNS, QuickRoom, command_of, compare, link_of, names_of_now
 from places import PROGRAM
-from processes import same, stays, that, until
+from processes import stays, until
 from room import Room, running
 from watch import Stop, WatchedRoom
 from witnessed import Witnessed
@@ -45,9 +45,9 @@ def test_every_ten_seconds():
         desk.write("".join(f"{it}\n" for it in RETURNS[:2]))
         room.start()
         until("the next", lambda: names_of_now(room) == ["now", "now-2"])
-        same("the answers", ["stored 1", "stored 2"], [desk.answer(), desk.answer()])
+        assert [desk.answer(), desk.answer()] == ["stored 1", "stored 2"], "the answers"
         first, second, *_ = map(float, times.read_text().split())
-        that(f"after {second - first:.1f} seconds", 10 <= second - first < 60)
+        assert 10 <= second - first < 60, f"after {second - first:.1f} seconds"
         stays("nothing is copied where nothing has changed", lambda: names_of_now(room) == ["now", "now-2"])
         room.stop()
 
@@ -56,10 +56,10 @@ def test_lines_meanwhile():
     """what comes while the child works is in none of its files; it leaves the processor to others"""
     with QuickRoom(every=NEVER, priority=19) as room:
         room.start_held()
-        same("its priority", 19, os.getpriority(os.PRIO_PROCESS, room.working()))
+        assert os.getpriority(os.PRIO_PROCESS, room.working()) == 19, "its priority"
         os.setpriority(os.PRIO_PROCESS, room.working(), 0)
-        same("the answers meanwhile", ["stored 1", "stored 2"], room.ask(1, *RETURNS[:2]).out)
-        same("`now` is not there before all is", ["now-0"], names_of_now(room))
+        assert room.ask(1, *RETURNS[:2]).out == ["stored 1", "stored 2"], "the answers meanwhile"
+        assert names_of_now(room) == ["now-0"], "`now` is not there before all is"
         room.goes_on()
         compare(room, [], shown=0)
 
@@ -72,7 +72,7 @@ def test_lines_before_the_child_reads():
         room.edit_script("zhcount_now.py", r"^    os\.nice\(", f"{waits}    os.nice(")
         room.start()
         lines = [f"return 1 1 {number} 525" for number in range(1, 201)]  # more than the office writes at once
-        same("the answers meanwhile", [f"stored {number}" for number in range(1, 201)], room.ask(1, *lines).out)
+        assert room.ask(1, *lines).out == [f"stored {number}" for number in range(1, 201)], "the answers meanwhile"
         room.goes_on()
         compare(room, [], shown=0)
 
@@ -84,7 +84,7 @@ def test_copies_between_lines():
         room.start()
         room.desk(1).talk(*(f"{line} -> stored {number}" for number, line in enumerate(RETURNS, 1)))
         compare(room, RETURNS)
-        same("nothing failed", "", "".join(it for it in room.office.error if "could not be renewed" in it))
+        assert "".join(it for it in room.office.error if "could not be renewed" in it) == "", "nothing failed"
         room.stop()
 
 
@@ -106,7 +106,7 @@ def test_copies_and_a_witness():
         room.note(desk, RETURNS[1])
         stays("nothing that waits is copied", lambda: not room.child() and names_of_now(room) == ["now", "now-1"], 3)
         room.signal(signal.SIGCONT)
-        same("the answer", "stored 2", desk.answer())
+        assert desk.answer() == "stored 2", "the answer"
         room.shows(2)
         room.stop()
 
@@ -115,14 +115,14 @@ def test_copy_of_other_commands(new_room):
     """a copy that has other commands than the log is not shown"""
     new_room.on_copies(f"printf '1 return 1 1 1 5\\n' | '{PROGRAM}' run --setup \"$3\" --disk \"$5\" > '{new_room.path}/said'")
     new_room.start().says("could not be renewed: the copy has not the 0 commands of the log: ")
-    same("nothing is shown", None, link_of(new_room))
+    assert link_of(new_room) is None, "nothing is shown"
     new_room.stop()
 
 
 def test_copy_of_another_disk(new_room):
     """another disk at the disk's path is not copied: the office stops"""
     new_room.start_held()
-    same("the answer", ["stored 1"], new_room.ask(1, RETURNS[0]).out)
+    assert new_room.ask(1, RETURNS[0]).out == ["stored 1"], "the answer"
     os.replace(new_room.other_disk(RETURNS[1]), new_room.disk)
     new_room.goes_on()
     new_room.ends(3, "is no longer the file")
@@ -146,12 +146,12 @@ def test_slow_child():
     with QuickRoom() as room:
         late = room.is_patient()
         room.start_held()
-        same("the answer meanwhile", ["stored 1"], room.ask(1, RETURNS[0]).out)
+        assert room.ask(1, RETURNS[0]).out == ["stored 1"], "the answer meanwhile"
         late.touch()
         room.office.says("could not be renewed: its process was killed after ")
         room.stop()
         until("nothing is left", lambda: not room.left_over())
-        same("and no folder", [], names_of_now(room))
+        assert names_of_now(room) == [], "and no folder"
 
 
 def test_no_room(new_room):
@@ -159,32 +159,32 @@ def test_no_room(new_room):
     office = new_room.start()
     new_room.shows(0)
     resource.prlimit(office.process.pid, resource.RLIMIT_FSIZE, (500_000, resource.RLIM_INFINITY))
-    same("the answers", [f"stored {it}" for it in range(1, 10)], new_room.ask(1, *RETURNS).out)
+    assert new_room.ask(1, *RETURNS).out == [f"stored {it}" for it in range(1, 10)], "the answers"
     office.says("could not be renewed: [Errno 27] File too large")
     (new_room.folder / "sheet-9.new").mkdir()
-    same("the sheet", "2 sheet provisional 9", new_room.ask(2, "sheet").out[0])
+    assert new_room.ask(2, "sheet").out[0] == "2 sheet provisional 9", "the sheet"
     office.says("a sheet is not put into the folder: ")
     new_room.shows(0)
     resource.prlimit(office.process.pid, resource.RLIMIT_FSIZE, (resource.RLIM_INFINITY, resource.RLIM_INFINITY))
     new_room.shows(9)
-    same("the end", 0, new_room.stop())
+    assert new_room.stop() == 0, "the end"
 
 
 def test_killed_office():
     """a child whose office is killed shows nothing, and the next start removes what it left"""
     with running(QuickRoom(every=NEVER)) as room:
-        same("the answer", ["stored 1"], room.ask(1, RETURNS[0]).out)
+        assert room.ask(1, RETURNS[0]).out == ["stored 1"], "the answer"
         room.stop()
         room.start_held()
         ends_without_child(room, signal.SIGKILL)
-        same("what is there", ["now-1"], names_of_now(room))
+        assert names_of_now(room) == ["now-1"], "what is there"
         (room.folder / "now-7-7").mkdir()
         (room.folder / "now").symlink_to("now-7-7")
         room.start_held()
-        same("an older `now` is gone", ["now-1"], names_of_now(room))
+        assert names_of_now(room) == ["now-1"], "an older `now` is gone"
         room.goes_on()
         compare(room, RETURNS[:1])
-        same("nothing else", ["now", "now-1"], names_of_now(room))
+        assert names_of_now(room) == ["now", "now-1"], "nothing else"
         room.check()
 
 
@@ -206,7 +206,7 @@ def test_told_twice():
         until("the last copy has a child", lambda: room.child() not in (0, first))
         stays("it waits", lambda: not room.office.has_ended())
         ends_without_child(room, signal.SIGTERM)
-        same("the end", (0, ["now-0"]), (room.office.wait(), names_of_now(room)))
+        assert (room.office.wait(), names_of_now(room)) == (0, ["now-0"]), "the end"
 
 
 class StopInNow(Stop):
@@ -231,7 +231,7 @@ class StopInNow(Stop):
             self.until("now-1", lambda: link_of(room) == "now-1")
             self.until("the answer", lambda: desk.out)
             self.until("nothing else", lambda: names_of_now(room) == ["now", "now-1"])
-            same("the rows", "municipality,list,number,votes\n1,1,1,525\n", (room.folder / "now/held.csv").read_text())
+            assert (room.folder / "now/held.csv").read_text() == "municipality,list,number,votes\n1,1,1,525\n", "the rows"
             room.stop()
         return self
 
@@ -247,7 +247,7 @@ class StopInNow(Stop):
 def test_stopped_office(new_room):
     """kill -9 of the office and of its child at each of their calls that make, change or remove something of `now`"""
     calls = StopInNow(new_room.scripts, 0).run().calls
-    that(f"calls: {calls}", calls > 15)
+    assert calls > 15, f"calls: {calls}"
     with concurrent.futures.ThreadPoolExecutor(5) as pool:
         list(pool.map(lambda number: StopInNow(new_room.scripts, number).run(), range(1, calls + 1)))
 
@@ -273,12 +273,12 @@ def test_fault_while_it_is_shown(new_room, call):
             seen.append((room.folder / "now").exists())
             return link_of(room) == "now-1"
         until(lambda: f"the next: {room.office.said()}", is_shown)
-        same("faults", 2, len(faults))
-        that(f"it leads to something each time: {seen.count(False)}", all(seen))
+        assert len(faults) == 2, "faults"
+        assert all(seen), f"it leads to something each time: {seen.count(False)}"
         room.office.says("could not be renewed: [Errno 28] No space left on device")
         desk.talk(f"{RETURNS[1]} -> stored 2")
         until("nothing else stays", lambda: names_of_now(room) == ["now", "now-2"])
-        same("the rows", "municipality,list,number,votes\n1,1,1,525\n1,2,1,300\n", (room.folder / "now/held.csv").read_text())
+        assert (room.folder / "now/held.csv").read_text() == "municipality,list,number,votes\n1,1,1,525\n1,2,1,300\n", "the rows"
         room.stop()
 
 
@@ -291,4 +291,4 @@ def test_failed_disk():
         room.shows(1)
         desk.write(f"{RETURNS[1]}\n")
         room.ends(3)
-        same("what `now` shows", ("now-1", ["now", "now-1"]), (link_of(room), names_of_now(room)))
+        assert (link_of(room), names_of_now(room)) == ("now-1", ["now", "now-1"]), "what `now` shows"

@@ -11,7 +11,7 @@ import pytest
 
 from places import TOP
 from processes import unread_by
-from room import SCRIPTS, let_in, same, stays, that, until
+from room import SCRIPTS, let_in, stays, until
 
 
 # A line
@@ -20,20 +20,20 @@ from room import SCRIPTS, let_in, same, stays, that, until
 def test_torn_line(room):
     """a line without its end is not sent, and that is said"""
     desk = room.ask(6, "return 1 1 1 525", "return 1 1 2 53", end="")
-    same("the answers", (["stored 1"], 1), (desk.out, desk.status))
+    assert (desk.out, desk.status) == (["stored 1"], 1), "the answers"
     desk.says("not sent, since its end is missing: return 1 1 2 53")
-    same("the next line", ["shows 1 525"], room.ask(6, "show 1 1").out)
-    same("another desk is not disturbed", ["shows 1 525"], room.ask(5, "show 1 1").out)
+    assert room.ask(6, "show 1 1").out == ["shows 1 525"], "the next line"
+    assert room.ask(5, "show 1 1").out == ["shows 1 525"], "another desk is not disturbed"
     room.check({6: ["return 1 1 1 525", "show 1 1"]})
 
 
 def test_for_itself(room):
     """a desk speaks for itself alone, whatever is typed"""
     lines = ["4 return 1 1 1 525", "4 show 1 1", "", " show 1 1", "show\t1 1", "sh\\ow", "é", "\\x0a4 close 1", "\0", "{}"]
-    same("the answers", ["refused syntax"] * len(lines), room.ask(3, *lines).out)
-    same("the lines of desk 4", [], room.of_desk(4))
+    assert room.ask(3, *lines).out == ["refused syntax"] * len(lines), "the answers"
+    assert room.of_desk(4) == [], "the lines of desk 4"
     noted = [*lines[:4], "show\\x091 1", "sh\\x5cow", "\\xc3\\xa9", "\\x5cx0a4 close 1", "\\x00", "{}"]
-    same("what is noted", noted, [it for it, _ in room.of_desk(3)])
+    assert [it for it, _ in room.of_desk(3)] == noted, "what is noted"
     room.check()
 
 
@@ -42,9 +42,9 @@ def test_long_line(room, more, is_said):
     """of a line with more than 120 bytes the first 121 are sent, which is said; the log grows no further, whatever the bytes are"""
     line = "return 1 1 1 525".ljust(more)
     desk = room.ask(3, line, "\0" * more, "show 1 1")
-    same("the answers", ["refused syntax", "refused syntax", "none"], desk.out)
-    same("it is said", is_said, "has more than 120 bytes: its first 121 are sent" in desk.said())
-    same("what is noted", [line[:121], "\\x00" * min(more, 121)], [it for it, _ in room.of_desk(3)][:2])
+    assert desk.out == ["refused syntax", "refused syntax", "none"], "the answers"
+    assert ("has more than 120 bytes: its first 121 are sent" in desk.said()) == is_said, "it is said"
+    assert [it for it, _ in room.of_desk(3)][:2] == [line[:121], "\\x00" * min(more, 121)], "what is noted"
     room.check()
 
 
@@ -59,8 +59,8 @@ def test_endless_line(room):
     for _ in range(24):
         desk.write("x" * 2**20)
     desk.write("\n")
-    same("the answer", "refused syntax", desk.answer())
-    that(f"the memory: {before} kB, then {memory()} kB", memory() < before + 8000)
+    assert desk.answer() == "refused syntax", "the answer"
+    assert memory() < before + 8000, f"the memory: {before} kB, then {memory()} kB"
     desk.talk("show 1 1 -> none")
 
 
@@ -69,13 +69,13 @@ def test_sheet(room):
     room.ask(1, "return 1 1 1 525", "return 2 1 1 240", "return 3 1 1 90")
     wanted = room.zhcount("run", disk=room.other_disk("return 1 1 1 525", "return 2 1 1 240", "return 3 1 1 90"), given="3 sheet\n")
     desk = room.desk(3)
-    same("the sheet", wanted, desk.send("sheet") + "\n")
+    assert desk.send("sheet") + "\n" == wanted, "the sheet"
     whole = wanted[2:-1].encode()
     noted = f"sheet provisional 3 {len(whole)} {hashlib.sha256(whole).hexdigest()}"
-    same("what is noted", [("sheet", noted)], room.of_desk(3))
+    assert room.of_desk(3) == [("sheet", noted)], "what is noted"
     room.stops_at(desk, "sheet")
     room.start()
-    same("the sheet after a stop", wanted, desk.answer("sheet") + "\n")
+    assert desk.answer("sheet") + "\n" == wanted, "the sheet after a stop"
     desk.end()
     room.ask(3, end="").says("before: sheet: 3 sheet provisional 3")
     room.check({3: ["sheet", "sheet"]})
@@ -96,7 +96,7 @@ def test_desk_is_killed(room):
         room.office.kill(signal.SIGCONT)
         found = before(room, 3)
         noted = room.of_desk(3)
-        that(f"{line}: {found}, and noted is {noted}", not noted and not found or found == noted[-1])
+        assert not noted and not found or found == noted[-1], f"{line}: {found}, and noted is {noted}"
     room.check()
 
 
@@ -119,12 +119,12 @@ def test_run_is_killed(room):
     desk = room.desk(1).talk("return 1 1 1 525 -> stored 1")
     os.kill(room.run_of_office(), signal.SIGKILL)
     room.ends(1, "zhcount run has ended: killed by signal 9")
-    same("the end", "zhcount run has ended: killed by signal 9", room.events()[-1].facts()["reason"])
+    assert room.events()[-1].facts()["reason"] == "zhcount run has ended: killed by signal 9", "the end"
     room.start()
     os.kill(room.unanswered(desk, "return 1 1 2 530"), signal.SIGKILL)
     room.ends(1, "unanswered: desk 1: return 1 1 2 530: the next start looks what became of it")
     room.start()
-    same("the answer", "stored 2", desk.answer())
+    assert desk.answer() == "stored 2", "the answer"
     room.check({1: ["return 1 1 1 525", "return 1 1 2 530"]})
 
 
@@ -138,8 +138,8 @@ def test_stop_keeps_a_command(room):
     room.stop(signal.SIGKILL)
     room.start(is_awaited=False).says("another program has the disk: waiting for its end")
     os.kill(run_process, signal.SIGCONT)
-    same("what was stored", "stored 1", desks[1].answer())
-    same("what nobody had taken", {"stored 2", "stored 3"}, {desks[number].answer() for number in (2, 3)})
+    assert desks[1].answer() == "stored 1", "what was stored"
+    assert {desks[number].answer() for number in (2, 3)} == {"stored 2", "stored 3"}, "what nobody had taken"
     room.check({1: ["return 1 1 1 525"], 2: ["close 2"], 3: ["return 3 1 1 90"]})
 
 
@@ -148,10 +148,10 @@ def test_told_what_became_of_it(room, is_stored):
     """a new connection is told what became of the last line, whatever another desk has done to the list meanwhile"""
     room.lost(room.desk(1), "return 1 1 1 525", is_stored)
     room.start()
-    same("the other", ["stored 2"], room.ask(2, "return 1 1 2 530").out)
+    assert room.ask(2, "return 1 1 2 530").out == ["stored 2"], "the other"
     desk = room.ask(1, "show 1 1")
     desk.says("before: return 1 1 1 525: stored 1")
-    same("what is held", ["shows 2 530"], desk.out)
+    assert desk.out == ["shows 2 530"], "what is held"
     room.check({1: ["return 1 1 1 525", "show 1 1"]})
 
 
@@ -166,7 +166,7 @@ def test_told_although_the_office_ends(room):
     room.start()
     desk.says("before: return 1 1 1 525: stored 1")
     desk.talk("show 1 2 -> none")
-    same("how often it is said", 1, desk.said().count("before: "))
+    assert desk.said().count("before: ") == 1, "how often it is said"
     desk.end()
     room.check({1: ["return 1 1 1 525", "show 1 2"]})
 
@@ -190,10 +190,10 @@ def test_stopped_office(hasty_room):
         desk.says(f"no answer yet to return {number - 1} 1 1 90: waiting")
     time.sleep(2.5)
     room.office.kill(signal.SIGCONT)
-    same("the answers", {"stored 1", "stored 2"}, {it.answer() for it in desks.values()})
+    assert {it.answer() for it in desks.values()} == {"stored 1", "stored 2"}, "the answers"
     for desk in desks.values():
-        same("how often it was said", 1, desk.said().count("no answer yet to return"))
-        that(f"nothing else is: {desk.said()}", "has ended" not in desk.said())
+        assert desk.said().count("no answer yet to return") == 1, "how often it was said"
+        assert "has ended" not in desk.said(), f"nothing else is: {desk.said()}"
     room.check({3: ["return 2 1 1 90"], 4: ["return 3 1 1 90"]})
 
 
@@ -205,7 +205,7 @@ def test_waits_for_an_office(hasty_room):
     desk.write("return 1 1 1 525\n")
     desk.says(f"no office is running in {room.folder} yet: waiting")
     room.start()
-    same("the answer", "stored 1", desk.answer())
+    assert desk.answer() == "stored 1", "the answer"
     other = room.desk(3).talk("return 3 1 1 90 -> stored 2")
     room.stop()
     room.folder.rename(f"{room.folder}.aside")
@@ -219,8 +219,8 @@ def test_waits_for_an_office(hasty_room):
     os.rename(f"{room.folder}.aside", room.folder)
     room.start()
     desk.says("the office is back, start 2")
-    same("the answer", "stored 3", desk.answer())
-    same("the end of the desk", 0, desk.end())
+    assert desk.answer() == "stored 3", "the answer"
+    assert desk.end() == 0, "the end of the desk"
     other = room.ask(3, "return 3 2 1 60")
     other.says("before: return 3 1 1 90: stored 2")
     room.check({1: ["return 1 1 1 525", "close 2"], 3: ["return 3 1 1 90", "return 3 2 1 60"]})
@@ -235,7 +235,7 @@ def test_desk_costs_nothing_while_it_waits(room):
         used = used_in(3, pids)
         if used <= 6:
             break
-    that(f"ticks of 10 ms that were used in 3 s: {used}", used <= 6)
+    assert used <= 6, f"ticks of 10 ms that were used in 3 s: {used}"
 
 
 def used_in(seconds, pids):
@@ -268,5 +268,5 @@ def test_manual_has_each_text():
     page = (TOP / "docs/MANUAL.md").read_text()
     rows = "".join(line.split(" | ")[0] + "\n" for line in page.split("\n") if line.startswith("| `"))
     found = sorted({it for it in texts() if re.search(r"[a-z]+ [a-z]+", it)})
-    that(f"texts are found: {found}", len(found) > 12)
-    same("texts without a row", [], [it for it in found if it not in rows and it.split(";")[0] not in rows])
+    assert len(found) > 12, f"texts are found: {found}"
+    assert [it for it in found if it not in rows and it.split(";")[0] not in rows] == [], "texts without a row"

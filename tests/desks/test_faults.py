@@ -8,7 +8,7 @@ import subprocess
 import pytest
 
 from places import PROGRAM
-from room import Process, same, that, until
+from room import Process, until
 
 FIRST, SECOND = "return 1 1 1 525", "return 1 2 1 300"
 
@@ -27,26 +27,26 @@ def test_another_disk_while_it_runs(room, change):
     change(room)
     desk.write(f"{SECOND}\n")
     room.ends(3, "is no longer the file", f"unanswered: desk 1: {SECOND}: the next start looks what became of it")
-    same("what the desk was shown", ["stored 1"], desk.out)
-    that(f"not said: {room.office.said()}", "every line is answered" not in room.office.said())
+    assert desk.out == ["stored 1"], "what the desk was shown"
+    assert "every line is answered" not in room.office.said(), f"not said: {room.office.said()}"
 
 
 @pytest.mark.parametrize("lines, put", [(["return 3 1 1 90"], os.replace), ([], shutil.copyfile)], ids=["in its place", "into the file"])
 def test_another_disk_at_the_end(room, lines, put):
     """an office that is told to end looks at the disk, too: no other export is noted, and no 'every line is answered'"""
-    same("the answer", ["stored 1"], room.ask(1, FIRST).out)
+    assert room.ask(1, FIRST).out == ["stored 1"], "the answer"
     put(room.other_disk(*lines), room.disk)
-    same(f"the status: {room.office.said()}", 3, room.stop())
-    that(f"not said: {room.office.said()}", "every line is answered" not in room.office.said())
+    assert room.stop() == 3, f"the status: {room.office.said()}"
+    assert "every line is answered" not in room.office.said(), f"not said: {room.office.said()}"
     last = room.events()[-1]
-    that(f"nothing is noted of it: {last}", last.kind != "ended" or last.facts()["commands"] is None)
+    assert last.kind != "ended" or last.facts()["commands"] is None, f"nothing is noted of it: {last}"
 
 
 def test_disk_that_is_not_there(new_room):
     """an office without a disk ends with 3, and says what the program says; it makes none"""
     new_room.disk.unlink()
     new_room.refuses("zhcount: disk device")
-    that("none is made", not new_room.disk.exists())
+    assert not new_room.disk.exists(), "none is made"
     new_room.setup.unlink()
     new_room.refuses("No such file or directory")
 
@@ -57,7 +57,7 @@ def test_disk_is_busy(new_room):
     holder.write(f"1 {FIRST}\n")
     until("it has the disk", lambda: holder.out)
     new_room.start(is_awaited=False).says("another program has the disk: waiting for its end")
-    same("told to end", 0, new_room.stop())
+    assert new_room.stop() == 0, "told to end"
     new_room.start(is_awaited=False).says("another program has the disk: waiting for its end")
     holder.end()
     new_room.ends(3, "has 1 command, but")
@@ -69,11 +69,11 @@ def test_busy_disk_at_the_end(new_room):
     is_asked = f"[ $1 != run ] && [ -e '{flag}' ] && [[ \"$*\" = *'{new_room.disk}'* ]]"
     new_room.stands_in(f"{is_asked} && {{ echo 'zhcount: disk busy' >&2; exit 1; }}")
     new_room.start()
-    same("the answer", ["stored 1"], new_room.ask(1, FIRST).out)
+    assert new_room.ask(1, FIRST).out == ["stored 1"], "the answer"
     flag.touch()
-    same(f"the status: {new_room.office.said()}", 0, new_room.stop())
+    assert new_room.stop() == 0, f"the status: {new_room.office.said()}"
     new_room.office.says("every line is answered")
-    same("what is noted", 1, new_room.events()[-1].facts()["commands"])
+    assert new_room.events()[-1].facts()["commands"] == 1, "what is noted"
 
 
 @pytest.mark.parametrize("edit, line, status, text", [
@@ -91,10 +91,10 @@ def test_no_answers(room, edit, line, status, text):
     room.start()
     desk.write(line + "\n")
     room.ends(status, text, f"unanswered: desk 1: {line}: the next start looks what became of it")
-    same("it stays open", (line, None), room.of_desk(1)[-1])
+    assert room.of_desk(1)[-1] == (line, None), "it stays open"
     room.environment["ZHCOUNT"] = str(PROGRAM)
     room.start()
-    that("the answer", re.match("stored 4|1 sheet provisional 3\nhouse(.|\n)*\nend$", desk.answer(line)))
+    assert re.match("stored 4|1 sheet provisional 3\nhouse(.|\n)*\nend$", desk.answer(line)), "the answer"
     room.check()
 
 
@@ -106,7 +106,7 @@ def test_device_while_rows_are_given_again(room):
     room.refuses("the disk has failed: refused device. Copy it before anything else")
     room.environment["ZHCOUNT"] = str(PROGRAM)
     room.start()
-    same("it stays", ["stored 1"], room.ask(1, "commit").out)
+    assert room.ask(1, "commit").out == ["stored 1"], "it stays"
     room.check()
 
 
@@ -124,7 +124,7 @@ def test_unexpected_text(new_room, task, text):
     """an unexpected text of the program needs a person: status 3, and no traceback, since it would come again"""
     new_room.stands_in(task)
     new_room.refuses(text)
-    that(f"no traceback: {new_room.office.said()}", "Traceback" not in new_room.office.said())
+    assert "Traceback" not in new_room.office.said(), f"no traceback: {new_room.office.said()}"
 
 
 def test_strange_path(new_room):
@@ -135,14 +135,14 @@ def test_strange_path(new_room):
     with subprocess.Popen(words, env={**os.environ, **new_room.environment}, stderr=subprocess.PIPE) as office:
         try:
             said = next((it for it in office.stderr if b"desks can send lines" in it), b"")
-            that("it starts", said)
+            assert said, "it starts"
             os.unlink(strange + b"/night.db")
             office.terminate()
             said = office.stderr.read()
-            same(f"its status: {said}", 3, office.wait())
+            assert office.wait() == 3, f"its status: {said}"
         finally:
             office.kill()
-    that(f"it says which: {said}", b"night.db" in said and b"Traceback" not in said)
+    assert b"night.db" in said and b"Traceback" not in said, f"it says which: {said}"
 
 
 def test_full_volume(new_room):
@@ -156,10 +156,10 @@ def test_full_volume(new_room):
     office.says("stopped: ", "night.db could not be written")
     resource.prlimit(office.process.pid, resource.RLIMIT_FSIZE, limit)
     new_room.ends(3)
-    that(f"no traceback: {office.said()}", "Traceback" not in office.said())
-    same("the program has not got it", "municipality,list,number,votes\n1,1,1,525\n", new_room.zhcount("export"))
+    assert "Traceback" not in office.said(), f"no traceback: {office.said()}"
+    assert new_room.zhcount("export") == "municipality,list,number,votes\n1,1,1,525\n", "the program has not got it"
     new_room.start()
-    same("the answer then", "stored 2", desk.answer())
+    assert desk.answer() == "stored 2", "the answer then"
     new_room.check({1: [FIRST, SECOND]})
 
 
@@ -172,17 +172,17 @@ def test_full_volume_of_the_disk(new_room):
     desk.write(f"{SECOND}\n")
     new_room.ends(3, "the disk has failed: refused device. Copy it before anything else")
     new_room.start()
-    same("the answer", "stored 2", desk.answer())
+    assert desk.answer() == "stored 2", "the answer"
     new_room.check({1: [FIRST, SECOND]})
 
 
 def test_folder_fails_at_the_end(new_room):
     """an office that can't note its end says so, with status 3 and without a traceback"""
     office = new_room.start()
-    same("the answer", ["stored 1"], new_room.ask(1, FIRST).out)
+    assert new_room.ask(1, FIRST).out == ["stored 1"], "the answer"
     resource.prlimit(office.process.pid, resource.RLIMIT_FSIZE, (1000, resource.RLIM_INFINITY))
-    same(f"the status: {office.said()}", 3, new_room.stop())
-    that(f"it says why: {office.said()}", "night.db could not be written" in office.said() and "Traceback" not in office.said())
+    assert new_room.stop() == 3, f"the status: {office.said()}"
+    assert "night.db could not be written" in office.said() and "Traceback" not in office.said(), f"it says why: {office.said()}"
     new_room.start()
     new_room.check({1: [FIRST]})
 
@@ -193,10 +193,10 @@ def test_folder_is_put_aside(room):
     room.folder.rename(room.path / "aside")
     desk.write(f"{SECOND}\n")
     room.ends(3, "night.db is no longer the file")
-    same("what the desk was shown", ["stored 1"], desk.out)
+    assert desk.out == ["stored 1"], "what the desk was shown"
     (room.path / "aside").rename(room.folder)
     room.start()
-    same("the answer", "stored 2", desk.answer())
+    assert desk.answer() == "stored 2", "the answer"
     room.check({1: [FIRST, SECOND]})
 
 
@@ -204,8 +204,8 @@ def test_checkpoints(new_room):
     """what has come is brought into night.db between lines, once it is much, and the -wal is written from its beginning again"""
     new_room.start()
     lines = [f"return 1 1 {number} {number}" for number in range(1, 301)]
-    same("the last answer", "stored 300", new_room.ask(1, *lines).out[-1])
-    that("the -wal stays short", (new_room.folder / "night.db-wal").stat().st_size < 1 << 19)
-    that("night.db has it", (new_room.folder / "night.db").stat().st_size > 1 << 16)
+    assert new_room.ask(1, *lines).out[-1] == "stored 300", "the last answer"
+    assert (new_room.folder / "night.db-wal").stat().st_size < 1 << 19, "the -wal stays short"
+    assert (new_room.folder / "night.db").stat().st_size > 1 << 16, "night.db has it"
     new_room.restart()
     new_room.check({1: lines})

@@ -8,7 +8,7 @@ import stat
 import pytest
 
 from now import command_of
-from processes import Process, same, that, until
+from processes import Process, until
 from watch import WatchedRoom
 
 
@@ -26,13 +26,13 @@ def test_nothing_is_overwritten(written):
         path = written.path / name
         make(path)
         before = os.lstat(path)
-        that(f"a {name}", f"{path} is there already" in written.zhcount_office("--rebuild", written.folder, path, status=1))
+        assert f"{path} is there already" in written.zhcount_office("--rebuild", written.folder, path, status=1), f"a {name}"
         after = os.lstat(path)
-        same("it is left", (before.st_ino, before.st_size, before.st_mtime_ns), (after.st_ino, after.st_size, after.st_mtime_ns))
+        assert (after.st_ino, after.st_size, after.st_mtime_ns) == (before.st_ino, before.st_size, before.st_mtime_ns), "it is left"
     written.stands_in(f"[ $1 = export ] && echo mine > '{written.new}'")
-    that("it is said", "not made: [Errno 17] File exists: " in written.rebuild(status=1))
-    same("one that came", b"mine\n", written.new.read_bytes())
-    same("nothing else is left", [], [it for it in os.listdir(written.path) if it.startswith("new.disk.")])
+    assert "not made: [Errno 17] File exists: " in written.rebuild(status=1), "it is said"
+    assert written.new.read_bytes() == b"mine\n", "one that came"
+    assert [it for it in os.listdir(written.path) if it.startswith("new.disk.")] == [], "nothing else is left"
 
 
 def test_whole_or_not_at_all(written):
@@ -52,16 +52,16 @@ def test_whole_or_not_at_all(written):
         room.folder.chmod(0o2750)
         said = room.process(Process, room.script("zhcount-office", "--rebuild", room.folder, room.new))
         said.ends_with(0, "the rebuild")
-        same("the whole of it gets its name", [(1118720, False)], sizes)
+        assert sizes == [(1118720, False)], "the whole of it gets its name"
         linked = next(place for place, (name, _) in enumerate(calls) if name == "link")
         made, names = calls[linked][1], [name for name, path in calls[:linked] if path == calls[linked][1]]
-        that(f"it is on the device before: {names}", names[-1] == "sync" and "write" in names)
-        that(f"nothing changes it then: {calls[linked:]}", not any(path in (made, str(room.new)) for name, path in calls[linked + 1:]
-                                                                   if name in ("write", "truncate", "open")))
-        that(f"its name too: {calls[linked:]}", ("sync", str(room.new.parent)) in calls[linked:])
-        same("what is there", ["new.disk"], os.listdir(room.new.parent))
-        same("who may use it", "-rw-------", stat.filemode(room.new.stat().st_mode))
-        same("its bytes", 1118720, room.new.stat().st_size)
+        assert names[-1] == "sync" and "write" in names, f"it is on the device before: {names}"
+        changed = {path for name, path in calls[linked + 1:] if name in ("write", "truncate", "open")}
+        assert not changed & {made, str(room.new)}, f"nothing changes it then: {calls[linked:]}"
+        assert ("sync", str(room.new.parent)) in calls[linked:], f"its name too: {calls[linked:]}"
+        assert os.listdir(room.new.parent) == ["new.disk"], "what is there"
+        assert stat.filemode(room.new.stat().st_mode) == "-rw-------", "who may use it"
+        assert room.new.stat().st_size == 1118720, "its bytes"
 
 
 def size_of(call):
@@ -74,20 +74,20 @@ def test_volume_without_room(written):
     words = written.script("zhcount-office", "--rebuild", written.folder, written.new)
     full = written.process(Process, ["prlimit", "--fsize=1000000", *words])
     full.wait()
-    that(f"it fails: {full.said()} {full.out}", full.process.returncode == 1)
-    same("nothing is left", [], [it for it in os.listdir(written.path) if it.startswith("new.disk")])
+    assert full.process.returncode == 1, f"it fails: {full.said()} {full.out}"
+    assert [it for it in os.listdir(written.path) if it.startswith("new.disk")] == [], "nothing is left"
 
 
 def test_beside_an_office(new_room):
     """while an office runs, replay, rebuild and another office say who has the folder, and it goes on; after its end they work, and it can
     start again"""
     new_room.start()
-    same("the answer", ["stored 1"], new_room.ask(1, "return 1 1 1 525").out)
+    assert new_room.ask(1, "return 1 1 1 525").out == ["stored 1"], "the answer"
     for status, *words in ((1, "--replay", new_room.folder), (1, "--rebuild", new_room.folder, new_room.path / "new.disk"),
                            (3, new_room.setup, new_room.disk, new_room.folder)):
         said = new_room.zhcount_office(*words, status=status)
         who = f"another office, witness or replay has {new_room.folder}: zhcount-office, process {new_room.office.process.pid} of"
-        that(f"{words[0]}: {said}", who in said)
+        assert who in said, f"{words[0]}: {said}"
     new_room.ask(1, "return 1 2 1 300")
     new_room.check()
     new_room.start()
@@ -101,8 +101,8 @@ def test_set_up_of_the_log(written):
         if before:
             setup.write_text(before)
         written.rebuild()
-        same("the set-up", written.setup.read_bytes(), setup.read_bytes())
-        same("who may use it", "-rw-r-----", stat.filemode(setup.stat().st_mode))
+        assert setup.read_bytes() == written.setup.read_bytes(), "the set-up"
+        assert stat.filemode(setup.stat().st_mode) == "-rw-r-----", "who may use it"
 
 
 def held_rebuild(night):
@@ -127,8 +127,8 @@ def test_killed_rebuild(written):
     memory.mkdir()
     written.edit_script("zhcount_program.py", r'"/dev/shm" if .* else tempfile\.gettempdir\(\)', repr(str(memory)))
     held, run, left = held_rebuild(written)
-    same("where it is", memory, left.parent)
-    that(f"it is there: {left}", left.is_dir())
+    assert left.parent == memory, "where it is"
+    assert left.is_dir(), f"it is there: {left}"
     os.utime(left, (0, 0))
     other_program = written.path / "other"
     other_program.write_text((written.path / "stand-in").read_text().replace("/held'", "/none'"))
@@ -137,13 +137,13 @@ def test_killed_rebuild(written):
     other = shutil.copytree(written.folder, written.path / "another")
     other.chmod(0o2750)
     written.zhcount_office("--replay", other)
-    that("that of one at work stays", left.is_dir())
+    assert left.is_dir(), "that of one at work stays"
     held.kill()
     held.wait()
     (written.path / "held").unlink()
     until("its run has ended", lambda: not command_of(run))
-    that("a killed one leaves it", left.is_dir())
+    assert left.is_dir(), "a killed one leaves it"
     os.utime(left, (0, 0))
     written.rebuild()
-    that("the next one removes it", not left.exists())
-    that("the log is as before", "the same: " in written.replay())
+    assert not left.exists(), "the next one removes it"
+    assert "the same: " in written.replay(), "the log is as before"

@@ -11,7 +11,7 @@ import pytest
 from now import CLOSINGS, RETURNS
 from places import REHEARSAL
 from quiet import QuietRoom
-from room import SECONDS, let_in, same, that
+from room import SECONDS, let_in
 
 NAMED = REHEARSAL.read_text().replace('"N"', '"Dübendorf"').replace('"B"', '"Grüne, Linke"')
 SET_PIPE_SIZE = 1031  # F_SETPIPE_SZ, which Python has as a name later than 3.8
@@ -31,7 +31,7 @@ def said(desk):
 
 
 def says(desk, *texts):
-    same("what is said", list(texts), said(desk))
+    assert said(desk) == list(texts), "what is said"
 
 
 def test_names(named_room):
@@ -51,7 +51,7 @@ def test_names(named_room):
              "reopen 1": ("refused notclosed 1",),
              "drop": ("refused nobatch",)}
     desk = named_room.ask(1, *lines)
-    same("the answers", [it[0] for it in lines.values()], desk.out)
+    assert desk.out == [it[0] for it in lines.values()], "the answers"
     says(desk, *(it[1] for it in lines.values() if it[1:]))
     named_room.check({1: list(lines)})
 
@@ -61,7 +61,7 @@ def test_closings(named_room):
     named_room.ask(1, *(f"return 1 {it} 1 5" for it in (1, 2, 3)))
     named_room.ask(2, *(f"return 1 {it} 1 5" for it in (1, 2, 3)))
     desk = named_room.ask(3, "close 1", "close 1", "return 1 1 2 6", "reopen 1")
-    same("the answers", ["stored 4", "same", "refused closed", "stored 5"], desk.out)
+    assert desk.out == ["stored 4", "same", "refused closed", "stored 5"], "the answers"
     says(desk, "Dübendorf: closed", "Dübendorf: closed", "Dübendorf: open again")
 
 
@@ -93,9 +93,9 @@ def test_answer_after_a_stop(room):
     warning = "municipality 3, W: 2 of 3 returns missing, 1 entered by one desk alone"
     room.stops_at(desk, "close 3").says(warning)
     room.start()
-    same("the answer", "stored 2", desk.answer())
+    assert desk.answer() == "stored 2", "the answer"
     desk.end()
-    same("what is said", ["W, A: 90 votes, version 1", warning, warning, "W: closed"], [it for it in said(desk) if "office" not in it])
+    assert [it for it in said(desk) if "office" not in it] == ["W, A: 90 votes, version 1", warning, warning, "W: closed"], "what is said"
 
 
 def test_nobody_reads(room):
@@ -106,10 +106,10 @@ def test_nobody_reads(room):
     given = "".join(f"{it}\n" for it in lines)
     ran = subprocess.run(room.script("zhcount-desk", "1", room.folder), input=given, stdout=subprocess.PIPE,
                          stderr=into, text=True, timeout=SECONDS)
-    same("the answers", [f"stored {it}" for it in range(1, 201)], ran.stdout.splitlines())
+    assert ran.stdout.splitlines() == [f"stored {it}" for it in range(1, 201)], "the answers"
     os.close(into)
     found = os.read(out, 8192).decode()
-    that(f"some of it is there: {found}", "N, A: 3 votes, version 3" in found and "version 200" not in found)
+    assert "N, A: 3 votes, version 3" in found and "version 200" not in found, f"some of it is there: {found}"
     os.close(out)
 
 
@@ -121,7 +121,7 @@ def test_close(room):
     room.ask(1, "return 3 1 1 90", "return 3 2 1 60", "return 1 1 1 525", "withdraw 3 3 1", "withdraw 3 3 1")
     room.ask(2, "return 3 1 1 90")
     desk = room.ask(3, "close 3", "close 2", "reopen 3")
-    same("the answers", ["stored 5", "stored 6", "stored 7"], desk.out)
+    assert desk.out == ["stored 5", "stored 6", "stored 7"], "the answers"
     says(desk, "municipality 3, W: 2 entered by one desk alone", "W: closed", "municipality 2, M: 3 of 3 returns missing", "M: closed",
          "W: open again")
     says(room.ask(4, "return 3 2 1 60", "withdraw 3 3 1", "close 3"), "W, B: 60 votes, version 1, entered by desk 1 too",
@@ -149,10 +149,10 @@ def test_final(room):
     desk = let_in(room, 4)
     run_process = room.unanswered(desk, "final")
     desk.says(*warnings)
-    same("what is answered by then", [], desk.out)
+    assert desk.out == [], "what is answered by then"
     os.kill(run_process, signal.SIGCONT)
-    that("a final sheet", desk.answer().startswith("4 sheet final 10\n"))
-    that("another one", desk.send("final").startswith("4 sheet final 10\n"))
+    assert desk.answer().startswith("4 sheet final 10\n"), "a final sheet"
+    assert desk.send("final").startswith("4 sheet final 10\n"), "another one"
     desk.end()
     says(desk, *warnings, *warnings)
 
@@ -167,7 +167,7 @@ def test_many_municipalities():
         room.start()
         room.ask(1, *(f"return {it} 1 1 {it}" for it in range(1, 15) if it != 12))
         desk = room.ask(1, "final")
-        same("the answer", ["refused notclosed 1"], desk.out)
+        assert desk.out == ["refused notclosed 1"], "the answer"
         alone = [f"municipality {it}, N{it}: 1 entered by one desk alone" for it in range(1, 9)]
         says(desk, "municipality 12, N12: 1 of 1 returns missing", *alone, "5 more municipalities: `now` has them all")
 
@@ -189,7 +189,7 @@ def totals(new_room):
 def closed(room):
     """What a desk says that closes municipality 1, and opens it again."""
     desk = room.ask(3, "close 1", "reopen 1")
-    that(f"both are stored: {desk.out}", [it[:7] for it in desk.out] == ["stored "] * 2)
+    assert [it[:7] for it in desk.out] == ["stored "] * 2, f"both are stored: {desk.out}"
     return [it for it in said(desk) if not it.endswith(("closed", "open again"))]
 
 
@@ -199,30 +199,30 @@ WRONG = "municipality 1, N: 2395 votes in all, and its own record states 1000"
 def test_totals(new_room, totals):
     """1570 for 175 is named at the closing, and before the final seats, once there is a total; the file is read anew each time"""
     totals.write_text("municipality,votes\n")
-    same("no total", [], closed(new_room))
+    assert closed(new_room) == [], "no total"
     totals.write_text("municipality,votes\n2,5\n1,1000\n")
-    same("a total", [WRONG], closed(new_room))
+    assert closed(new_room) == [WRONG], "a total"
     desk = new_room.ask(3, "final")
-    that(f"before the final seats: {desk.said()}", f"zhcount-desk: {WRONG}\n" in desk.said())
+    assert f"zhcount-desk: {WRONG}\n" in desk.said(), f"before the final seats: {desk.said()}"
     new_room.ask(1, "return 1 3 2 175")
     new_room.ask(2, "return 1 3 2 175")
-    same("the right votes", [], closed(new_room))
+    assert closed(new_room) == [], "the right votes"
 
 
 def test_wrong_totals(new_room, totals):
     """a desk says that totals are wrong, or not there, and the municipality is closed; of one that is right they count"""
     remark = "the totals of their own records: "
-    same("no file", [f"{remark}{totals} can't be read: [Errno 2] No such file or directory: '{totals}'"], closed(new_room))
+    assert closed(new_room) == [f"{remark}{totals} can't be read: [Errno 2] No such file or directory: '{totals}'"], "no file"
     totals.write_text("municipality,votes\n9,5\n1,1000\nx\n")
-    same("wrong rows", [f"{remark}line 2: there is no municipality '9'; 1 more in `now/differs`", WRONG], closed(new_room))
+    assert closed(new_room) == [f"{remark}line 2: there is no municipality '9'; 1 more in `now/differs`", WRONG], "wrong rows"
     totals.write_text("municipality,votes\n1,1'000\n")
-    same("no number", [f'{remark}line 2: "1\'000" is no number of votes'], closed(new_room))
+    assert closed(new_room) == [f'{remark}line 2: "1\'000" is no number of votes'], "no number"
 
 
 def test_totals_that_hang(new_room):
     """a file of totals that can't be read at once stops nobody: that is said, the municipality is closed, and the office ends as always"""
     new_room.edit_script("zhcount_tables.py", r"^def text_of.*\n", r"\g<0>    __import__('time').sleep(20)\n")
     new_room.start("--totals", "/net/totals")
-    same("what is said", ["the totals of their own records: /net/totals can't be read within 2 seconds",
-                          "municipality 1, N: 3 of 3 returns missing"], closed(new_room))
+    assert closed(new_room) == ["the totals of their own records: /net/totals can't be read within 2 seconds",
+                                "municipality 1, N: 3 of 3 returns missing"], "what is said"
     new_room.check()

@@ -8,7 +8,7 @@ from logs import noted
 from nights import Night
 from now import CLOSINGS, HEAD, NEVER, RETURNS, UNCONFIRMED, QuickRoom, compare, link_of, model, names_of_now, table_of, table_of_lines
 from places import PROGRAM
-from processes import same, that, until
+from processes import until
 from room import running
 
 ROOM = QuickRoom
@@ -20,27 +20,27 @@ ROOM = QuickRoom
 def test_sheets():
     """what a desk shows as a sheet, and the sheet in the folder, are the sheet of run, and check says that it is right"""
     with running(QuickRoom(every=NEVER)) as room:
-        same("other answers have no desk", [f"stored {it}" for it in range(1, 10)] + ["shows 1 525", "refused notclosed 1"],
-             room.ask(2, *RETURNS, "show 1 1", "final").out)
+        answers = [*(f"stored {it}" for it in range(1, 10)), "shows 1 525", "refused notclosed 1"]
+        assert room.ask(2, *RETURNS, "show 1 1", "final").out == answers, "other answers have no desk"
         held = room.path / "held.csv"
         for desk, before, line, name in [(2, [], "sheet", "sheet-9"), (1, CLOSINGS, "final", "sheet-final-12")]:
             held.write_text(model(room, [*RETURNS, *before])["held.csv"])
             ran = room.zhcount("run", disk=room.path / "other.disk", given=f"{desk} {line}\n")
-            same(f"the answer to {line}", ran.split("\n")[:-1], room.ask(desk, *before, line).out[len(before):])
+            assert room.ask(desk, *before, line).out[len(before):] == ran.split("\n")[:-1], f"the answer to {line}"
             sheet = room.folder / name
             until(name, sheet.exists)
-            same(name, ran, sheet.read_text())
-            same("its mode", "-rw-r-----", stat.filemode(sheet.stat().st_mode))
+            assert sheet.read_text() == ran, name
+            assert stat.filemode(sheet.stat().st_mode) == "-rw-r-----", "its mode"
             words = [PROGRAM, "check", "--setup", room.setup, "--sheet", sheet, "--held", held]
-            that("it is right", b"sheet ok" in subprocess.run(words, stdout=subprocess.PIPE).stdout)
-        same("the newest of each kind", {"sheet-9", "sheet-final-12"}, kept_sheets(room))
-        same("another one", "3 sheet provisional 12", room.ask(3, "sheet").out[0])
+            assert b"sheet ok" in subprocess.run(words, stdout=subprocess.PIPE).stdout, "it is right"
+        assert kept_sheets(room) == {"sheet-9", "sheet-final-12"}, "the newest of each kind"
+        assert room.ask(3, "sheet").out[0] == "3 sheet provisional 12", "another one"
         until("only the newest stays", lambda: kept_sheets(room) == {"sheet-12", "sheet-final-12"})
-        that("its desk", (room.folder / "sheet-12").read_text().startswith("3 sheet provisional 12\n"))
-        that("a new connection says it", "before: sheet: 3 sheet provisional 12" in room.ask(3, "show 1 1").said())
+        assert (room.folder / "sheet-12").read_text().startswith("3 sheet provisional 12\n"), "its desk"
+        assert "before: sheet: 3 sheet provisional 12" in room.ask(3, "show 1 1").said(), "a new connection says it"
         whole = "\n".join(room.ask(3, "sheet").out)
         room.stop()
-        same("the log has its first line, its length and its sum, without its desk", noted(whole[2:]), room.of_desk(3)[-1][1])
+        assert room.of_desk(3)[-1][1] == noted(whole[2:]), "the log has its first line, its length and its sum, without its desk"
         room.check()
 
 
@@ -55,16 +55,16 @@ def test_files_of_a_copy(room):
     """the files of `now` are those of the model after as many commands, and the group may read them"""
     compare(room, [])
     lines = [*RETURNS[:1], *RETURNS[3:4], "return 3 1 1 20001", "withdraw 1 2 1", "close 2"]
-    same("the answers", [f"stored {it}" for it in range(1, 6)], room.ask(1, *lines).out)
+    assert room.ask(1, *lines).out == [f"stored {it}" for it in range(1, 6)], "the answers"
     now = compare(room, lines, "1,1,1,525,1,N,A\n1,2,1,withdrawn,1,N,B\n2,1,1,240,1,M,A\n3,1,1,20001,1,W,A\n")
-    that("some are implausible", "3,1,20001," in (now / "implausible").read_text())
+    assert "3,1,20001," in (now / "implausible").read_text(), "some are implausible"
     files = [it for it in now.iterdir() if it.is_file()]
-    same("the modes", {"drwxr-s---", "-rw-r-----"}, {stat.filemode(it.stat().st_mode) for it in (now, *files)})
+    assert {stat.filemode(it.stat().st_mode) for it in (now, *files)} == {"drwxr-s---", "-rw-r-----"}, "the modes"
     (room.folder / "witness").write_text("no witness since ..\n")
     room.ask(1, "return 1 1 2 526")
-    same("what is said of the witness", "no witness since ..\n", (room.shows(6) / "witness").read_text())
+    assert (room.shows(6) / "witness").read_text() == "no witness since ..\n", "what is said of the witness"
     room.stop()
-    same("`now` stays", ["now", "now-6"], names_of_now(room))
+    assert names_of_now(room) == ["now", "now-6"], "`now` stays"
     room.check()
 
 
@@ -76,11 +76,11 @@ def test_the_end():
         until("the first", lambda: link_of(room) == "now-0")
         room.ask(1, *RETURNS, "show 1 1", "sheet", "x,\"y\"")
         room.held.touch()  # the last child takes longer than an office that does not wait for it
-        same("the end", 0, room.stop())
+        assert room.stop() == 0, "the end"
         compare(room, RETURNS)
-        same("nothing else", ["now", "now-9"], names_of_now(room))
+        assert names_of_now(room) == ["now", "now-9"], "nothing else"
         last = (room.folder / "now/lines.csv").read_text().splitlines()[-1]
-        that(f"the last line is there: {last}", ',"x,""y""",refused syntax,' in last)
+        assert ',"x,""y""",refused syntax,' in last, f"the last line is there: {last}"
         room.start()
         compare(room, RETURNS)
         room.stop()
@@ -91,13 +91,13 @@ def test_lines(room):
     lines = ["show 1 1", "x, \"y\" z", "\xff\t\\", "sheet", *RETURNS, "sheet", "return 1 1 2 526"]
     room.ask(3, *lines)
     wanted = table_of_lines(room.folder)
-    same("its head", HEAD, wanted.split("\n")[0])
+    assert wanted.split("\n")[0] == HEAD, "its head"
     until("all lines are there", lambda: lines_of(room) == wanted)
     room.restart()
     room.ask(2, "show 1 1")
     wanted = table_of_lines(room.folder)
     until("those of two starts are there", lambda: lines_of(room) == wanted)
-    that("the start of the last one", wanted.splitlines()[-1].split(",")[2:4] == ["2", "2"])
+    assert wanted.splitlines()[-1].split(",")[2:4] == ["2", "2"], "the start of the last one"
     room.stop()
 
 
@@ -125,9 +125,9 @@ def test_a_hundred_thousand_lines():
     """a hundred thousand lines are all in lines.csv, and meanwhile desks are answered"""
     with LongNight() as night:
         night.start()
-        same("the answer", ["stored 1"], night.ask(1, RETURNS[0]).out)
+        assert night.ask(1, RETURNS[0]).out == ["stored 1"], "the answer"
         now = night.shows(1)
-        same("the lines", 100_002, (now / "lines.csv").read_text().count("\n"))
+        assert (now / "lines.csv").read_text().count("\n") == 100_002, "the lines"
         night.desk(2).talk("show 1 1 -> shows 1 525")
         night.stop()
 
@@ -140,7 +140,7 @@ def test_unconfirmed_returns(new_room):
     new_room.setup.write_text(new_room.setup.read_text().replace('name = "N"', 'name = "N, \\"n\\""'))
     new_room.disk.unlink()
     new_room.zhcount("format")
-    same("what is loaded", "stored 1\n", new_room.load("3,1,1,90", "3,2,1,60"))
+    assert new_room.load("3,1,1,90", "3,2,1,60") == "stored 1\n", "what is loaded"
     new_room.zhcount_office("--take", new_room.setup, new_room.disk, new_room.folder)
     new_room.start()
     desks = {it: new_room.desk(it) for it in range(1, 8)}
@@ -178,12 +178,12 @@ def test_unconfirmed_after_a_stop(new_room):
     new_room.note(desk, RETURNS[0])
     until("it is stored", lambda: RETURNS[0].replace("return ", "").replace(" ", ",") in new_room.zhcount("export", disk=copied(new_room)))
     new_room.restart()
-    same("the answer", "stored 1", desk.answer())
+    assert desk.answer() == "stored 1", "the answer"
     desk.talk("open -> held 0", "row 1 2 1 300 -> held 1", "commit -> stored 2", "open -> held 0", "row 1 3 1 175 -> held 1")
     new_room.note(desk, "commit")
     until("it is stored", lambda: "1,3,1,175" in new_room.zhcount("export", disk=copied(new_room)))
     new_room.restart()
-    same("the answer", "stored 3", desk.answer())
+    assert desk.answer() == "stored 3", "the answer"
     shows_unconfirmed(new_room, 3, table_of(RETURNS[:3]))
     new_room.stop()
 

@@ -14,7 +14,7 @@ import pytest
 
 from logs import check_chain
 from places import PROGRAM, TOP
-from room import MODES, SCRIPTS, Process, same, stays, that, until
+from room import MODES, SCRIPTS, Process, stays, until
 
 FIRST = "return 1 1 1 525"
 UNIT = SCRIPTS / "zhcount-office.service"
@@ -29,9 +29,9 @@ def start_after(room, before):
     words = room.script("zhcount-office", room.setup, room.disk, room.folder)
     room.office = room.process(Process, ["sh", "-c", f'{before}; exec "$0" "$@"', *words])
     until(f"the office is ready after {before}", lambda: room.listens() or room.office.has_ended())
-    that(f"it runs after {before}: {room.office.said()}", not room.office.has_ended())
+    assert not room.office.has_ended(), f"it runs after {before}: {room.office.said()}"
     streams = [os.path.realpath(f"/proc/{room.office.process.pid}/fd/{number}") for number in range(3)]
-    same(f"streams that are files of the folder after {before}", [], [it for it in streams if it.startswith(str(room.folder))])
+    assert [it for it in streams if it.startswith(str(room.folder))] == [], f"streams that are files of the folder after {before}"
 
 
 # What it notes
@@ -39,7 +39,7 @@ def start_after(room, before):
 
 def test_what_is_noted(room):
     """a start has the program's version and sum, and the commands and the export's sum of the disk; an end the reason, and those"""
-    same("the answers", ["stored 1", "refused syntax"], room.ask(1, FIRST, "sh\\ow").out)
+    assert room.ask(1, FIRST, "sh\\ow").out == ["stored 1", "refused syntax"], "the answers"
     room.stop()
     room.start()
     room.stop(signal.SIGKILL)
@@ -48,30 +48,30 @@ def test_what_is_noted(room):
     check_chain(room.folder)
     found = room.events()
     kinds = ["setup", "start", *["line", "answer"] * 2, "ended", "start", "start", "ended"]
-    same("the events", kinds, [it.kind for it in found])
-    same("the set-up", room.setup.read_text(), found[0].text)
+    assert [it.kind for it in found] == kinds, "the events"
+    assert found[0].text == room.setup.read_text(), "the set-up"
     said = subprocess.run([PROGRAM, "--version"], capture_output=True, text=True).stdout.strip()
     exports = [hashlib.sha256(it.encode()).hexdigest() for it in ("municipality,list,number,votes\n", room.zhcount("export"))]
     for start, commands in ((1, 0), (7, 1), (8, 1)):
         facts = found[start].facts()
-        that(f"the version {facts['version']}", facts["version"] and facts["version"] in said)
-        same("the program", hashlib.sha256(PROGRAM.read_bytes()).hexdigest(), facts["program"])
-        same(f"the disk at event {start + 1}", (commands, exports[commands]), (facts["commands"], facts["export"]))
+        assert facts["version"] and facts["version"] in said, f"the version {facts['version']}"
+        assert facts["program"] == hashlib.sha256(PROGRAM.read_bytes()).hexdigest(), "the program"
+        assert (facts["commands"], facts["export"]) == (commands, exports[commands]), f"the disk at event {start + 1}"
     for end in (6, 9):
-        same("the end", {"reason": "told to", "commands": 1, "export": exports[1]}, found[end].facts())
+        assert found[end].facts() == {"reason": "told to", "commands": 1, "export": exports[1]}, "the end"
     for it in found:
-        that(f"the time of {it}", re.fullmatch(r"\d{4}-\d\d-\d\dT\d\d:\d\d:\d\d\.\d{3}[+-]\d\d:\d\d", it.at))
+        assert re.fullmatch(r"\d{4}-\d\d-\d\dT\d\d:\d\d:\d\d\.\d{3}[+-]\d\d:\d\d", it.at), f"the time of {it}"
 
 
 def test_clean_end(room):
     """after a clean end the folder has the log alone, whole, for its owner; every line is answered"""
-    same("the answer", ["stored 1"], room.ask(1, FIRST).out)
+    assert room.ask(1, FIRST).out == ["stored 1"], "the answer"
     room.stop()
     room.office.says("stopped: told to", "every line is answered")
-    same("what is there", {"night.db": "-rw-------"}, room.modes())
+    assert room.modes() == {"night.db": "-rw-------"}, "what is there"
     copied = shutil.copyfile(room.folder / "night.db", room.path / "night.db")
     ran = subprocess.run(["sqlite3", copied, "SELECT kind, text FROM event WHERE desk = 1"], capture_output=True, text=True)
-    same(f"what sqlite3 shows: {ran.stderr}", f"line|{FIRST}\nanswer|stored 1\n", ran.stdout)
+    assert ran.stdout == f"line|{FIRST}\nanswer|stored 1\n", f"what sqlite3 shows: {ran.stderr}"
 
 
 def test_program_that_is_not_there(new_room):
@@ -89,7 +89,7 @@ def test_arguments(words, tmp_path):
     """arguments that are none have status 2, and nothing is made"""
     script, *more = shlex.split(words)
     ran = subprocess.run([SCRIPTS / script, *more], cwd=tmp_path, capture_output=True, text=True)
-    same(f"the status of {words}: {ran.stderr}", (2, []), (ran.returncode, os.listdir(tmp_path)))
+    assert (ran.returncode, os.listdir(tmp_path)) == (2, []), f"the status of {words}: {ran.stderr}"
 
 
 # Signals, and the office's own log
@@ -103,18 +103,18 @@ def test_told_to_end(room):
     room.office.kill(signal.SIGTERM)
     stays("it waits", lambda: not room.office.has_ended())
     os.kill(run_process, signal.SIGCONT)
-    same("the end", 0, room.office.wait())
-    that(f"it waits for the answer: {room.office.said()}", "every line is answered" in room.office.said())
-    same("the answer", "stored 1", desks[1].answer())
+    assert room.office.wait() == 0, "the end"
+    assert "every line is answered" in room.office.said(), f"it waits for the answer: {room.office.said()}"
+    assert desks[1].answer() == "stored 1", "the answer"
     room.start()
-    same("the answer of the next start", "stored 2", desks[2].answer())
+    assert desks[2].answer() == "stored 2", "the answer of the next start"
     run_process = room.unanswered(desks[1], "close 1")
     room.office.kill(signal.SIGTERM)
     room.office.kill(signal.SIGINT)
     room.ends(0, "told to, twice", "unanswered: desk 1: close 1: the next start looks what became of it")
     os.kill(run_process, signal.SIGKILL)
     room.start()
-    same("its answer", "stored 3", desks[1].answer())
+    assert desks[1].answer() == "stored 3", "its answer"
     room.check()
 
 
@@ -122,7 +122,7 @@ def test_told_again_at_the_end(new_room):
     """Ctrl-C, and again while the office looks at the disk for the last time, is no fault of the program: the status stays 0"""
     flag = new_room.path / "flag"
     new_room.start()
-    same("the answer", ["stored 1"], new_room.ask(1, FIRST).out)
+    assert new_room.ask(1, FIRST).out == ["stored 1"], "the answer"
     new_room.stop()
     waits = f"echo > '{flag}.seen'; while [ -e '{flag}' ]; do sleep 0.02; done"
     new_room.stands_in(f"[ $1 = status ] && [ -e '{flag}' ] && {{ trap 'exit 1' INT; {waits}; }}")  # bash alone would overhear some INT
@@ -135,15 +135,15 @@ def test_told_again_at_the_end(new_room):
     if not office.has_ended():
         os.killpg(office.process.pid, signal.SIGINT)
     flag.unlink()
-    same(f"the status: {office.said()}", 0, office.wait())
+    assert office.wait() == 0, f"the status: {office.said()}"
 
 
 def test_ignored_signal(new_room):
     """a signal that was ignored at the start, as by nohup, does not end the office"""
     start_after(new_room, "trap '' HUP")
     new_room.office.kill(signal.SIGHUP)
-    same("the answer", ["stored 1"], new_room.ask(1, FIRST).out)
-    same("TERM ends it", 0, new_room.stop())
+    assert new_room.ask(1, FIRST).out == ["stored 1"], "the answer"
+    assert new_room.stop() == 0, "TERM ends it"
 
 
 def test_log_that_takes_nothing(new_room):
@@ -155,8 +155,8 @@ def test_log_that_takes_nothing(new_room):
             pass
     for before in ("exec 2> /dev/full", "exec 2>&-", "exec <&- >&- 2>&-", f"exec 2> '{new_room.path}/log'"):
         start_after(new_room, before)
-        same(f"the answer with {before}", ["none"], new_room.ask(1, "show 1 1").out)
-        same(f"the end with {before}", 0, new_room.stop())
+        assert new_room.ask(1, "show 1 1").out == ["none"], f"the answer with {before}"
+        assert new_room.stop() == 0, f"the end with {before}"
     os.close(log)
 
 
@@ -171,12 +171,12 @@ def test_start_beside_a_replay(room):
     until("it runs", lambda: room.children_of(replay))
     waits = f"waiting for the end of zhcount-office --replay, process {replay.process.pid} of "
     room.start(is_awaited=False).says(waits)
-    same("told to end", 0, room.stop())
+    assert room.stop() == 0, "told to end"
     room.start(is_awaited=False).says(waits)
     flag.unlink()
     room.await_start()
     room.office.says("start 2,")
-    same(f"the replay: {replay.said()}", 0, replay.wait())
+    assert replay.wait() == 0, f"the replay: {replay.said()}"
 
 
 # Users and modes
@@ -186,8 +186,8 @@ def test_start_beside_a_replay(room):
 def test_who_may_use_it(new_room, umask):
     """the modes of a folder do not hang on the umask"""
     start_after(new_room, f"umask {umask}")
-    same(f"with {umask}", MODES, new_room.modes())
-    same("the folder", "drwxr-s---", stat.filemode(new_room.folder.stat().st_mode))
+    assert new_room.modes() == MODES, f"with {umask}"
+    assert stat.filemode(new_room.folder.stat().st_mode) == "drwxr-s---", "the folder"
     new_room.stop()
 
 
@@ -196,7 +196,7 @@ def test_folder_that_a_stop_left(new_room):
     refused"""
     new_room.folder.mkdir(mode=0o700)
     new_room.start()
-    same("its mode", "drwxr-s---", stat.filemode(new_room.folder.stat().st_mode))
+    assert stat.filemode(new_room.folder.stat().st_mode) == "drwxr-s---", "its mode"
     new_room.stop()
     for mode in (0o2755, 0o2770, 0o2752):
         new_room.folder.chmod(mode)
@@ -223,7 +223,7 @@ def test_python_of_the_scripts():
                 ast.parse(path.read_text(), feature_version=(3, 8))
             except SyntaxError as wrong:
                 raise AssertionError(f"{path.name}: {wrong}") from None
-    that("MANUAL says so", re.search(r"Python\s+3\.8", (TOP / "docs/MANUAL.md").read_text()))
+    assert re.search(r"Python\s+3\.8", (TOP / "docs/MANUAL.md").read_text()), "MANUAL says so"
 
 
 def test_unit(tmp_path):
@@ -231,13 +231,13 @@ def test_unit(tmp_path):
     but where a person has to look, and lets it have sockets of this machine alone"""
     text = UNIT.read_text()
     for line in ("StartLimitIntervalSec=0", "RestartPreventExitStatus=2 3", "RestrictAddressFamilies=AF_UNIX"):
-        that(line, line in text.splitlines())
-    that("OnFailure", re.search(r"^#? ?OnFailure=", text, re.MULTILINE))
-    that("a pause", int(re.search(r"^RestartSec=(\d+)$", text, re.MULTILINE)[1]) >= 2)
+        assert line in text.splitlines(), line
+    assert re.search(r"^#? ?OnFailure=", text, re.MULTILINE), "OnFailure"
+    assert int(re.search(r"^RestartSec=(\d+)$", text, re.MULTILINE)[1]) >= 2, "a pause"
     if not shutil.which("systemd-analyze"):
         pytest.skip("there is no systemd-analyze")
     path = tmp_path / UNIT.name
     path.write_text(re.sub(r"^ExecStart=\S+", "ExecStart=/bin/true", text, flags=re.MULTILINE))
     for words in (["verify", "--man=no"], ["security", "--offline=true", f"--threshold={EXPOSURE}", "--no-pager"]):
         ran = subprocess.run(["systemd-analyze", *words, path], capture_output=True, text=True)
-        same(f"{words[0]}: {ran.stdout[-200:]}{ran.stderr}", 0, ran.returncode)
+        assert ran.returncode == 0, f"{words[0]}: {ran.stdout[-200:]}{ran.stderr}"

@@ -17,7 +17,7 @@ import disks
 import places
 from disks import DISK_BYTES, FORMAT_BYTE, PLACES, put
 from places import PROGRAM, ZURICH
-from room import SCRIPTS, Desk, Room, same
+from room import SCRIPTS, Desk, Room
 
 READER = SCRIPTS / "zhcount-read"
 REHEARSAL = places.REHEARSAL.read_text()
@@ -44,9 +44,9 @@ def said(words):
     """The fault that a program reports, its first two words, or none; and what it writes."""
     ran = run(words, stdin=subprocess.DEVNULL)
     fault = re.match(rb"zhcount(?:-read)?: (\w+ ?\w*)", ran.stderr)
-    same("the status", (1 if ran.stderr else 0, bool(ran.stderr)), (ran.returncode, bool(fault)))
+    assert (ran.returncode, bool(fault)) == (1 if ran.stderr else 0, bool(ran.stderr)), "the status"
     if READER in words:
-        same("the lines of a fault", bool(fault), ran.stderr.count(b"\n"))
+        assert ran.stderr.count(b"\n") == bool(fault), "the lines of a fault"
     return fault[1].decode() if fault else "", ran.stdout
 
 
@@ -54,7 +54,7 @@ def read(path):
     """As `said`, of the script, which leaves the file as it is."""
     before = path.read_bytes(), path.stat().st_mtime_ns
     found = said([sys.executable, READER, path])
-    same("the file", before, (path.read_bytes(), path.stat().st_mtime_ns))
+    assert (path.read_bytes(), path.stat().st_mtime_ns) == before, "the file"
     return found
 
 
@@ -75,9 +75,9 @@ def compare(title, disk, setup=None):
             wanted = export(second, disks.setup_of(disk) or setup or REHEARSAL)
             if wanted[0].startswith("setup "):
                 wanted = export(second, setup or REHEARSAL)
-            same("what is read", wanted, read(first))
+            assert read(first) == wanted, "what is read"
             if not wanted[0]:  # the export may have taken the disk over into format 2
-                same("what is read after the export", wanted, read(second))
+                assert read(second) == wanted, "what is read after the export"
         except AssertionError as different:
             raise AssertionError(f"{title}: {different}") from None
     return wanted[0] or "exported"
@@ -89,7 +89,7 @@ def formatted(setup, *parts):
         yield room.disk.read_bytes()
         for part in parts:
             answers = room.zhcount("run", given="\n".join(part))
-            same("the answers that do not store", [], re.findall(r"\d (?!stored|held).*", answers))
+            assert re.findall(r"\d (?!stored|held).*", answers) == [], "the answers that do not store"
             yield room.disk.read_bytes()
 
 
@@ -268,7 +268,7 @@ def test_disks(source):
     """Each disk of a source, and that there are those of each outcome."""
     with concurrent.futures.ThreadPoolExecutor(4) as pool:
         outcomes = set(pool.map(lambda it: compare(*it), source()))
-    same(f"{outcomes}, and outcomes that there have to be", set(), DISKS[source] - outcomes)
+    assert DISKS[source] - outcomes == set(), f"{outcomes}, and outcomes that there have to be"
 
 
 def test_kinds_of_files(tmp_path):
@@ -278,23 +278,23 @@ def test_kinds_of_files(tmp_path):
     (tmp_path / "setup").write_text(REHEARSAL)
     for path in (*(tmp_path / it for it in (".", "pipe", "link", "none", "setup/disk")), pathlib.Path("/dev/null")):
         words = [PROGRAM, "export", "--setup", tmp_path / "setup", "--disk", path]
-        same(f"what is read at {path}", said(words), said([sys.executable, READER, path]))
+        assert said([sys.executable, READER, path]) == said(words), f"what is read at {path}"
     (tmp_path / "disk").write_bytes(fresh(REHEARSAL))
     (tmp_path / "other").symlink_to("disk")
     (tmp_path / "disk").chmod(0o400)
-    same("what is read through a link", ("", b"municipality,list,number,votes\n"), read(tmp_path / "other"))
-    same("the folder", ["disk", "link", "other", "pipe", "setup"], sorted(it.name for it in tmp_path.iterdir()))
+    assert read(tmp_path / "other") == ("", b"municipality,list,number,votes\n"), "what is read through a link"
+    assert sorted(it.name for it in tmp_path.iterdir()) == ["disk", "link", "other", "pipe", "setup"], "the folder"
 
 
 def test_arguments_and_streams(tmp_path):
     """Wrong arguments, and a standard output that takes nothing."""
     for words in ([], ["a", "b"], ["--help"], ["-h"], ["--disk", "a"]):
         ran = run([sys.executable, READER, *words])
-        same(f"what {words} gets", (2, b"", b"usage: zhcount-read DISK\n"), (ran.returncode, ran.stdout, ran.stderr))
+        assert (ran.returncode, ran.stdout, ran.stderr) == (2, b"", b"usage: zhcount-read DISK\n"), f"what {words} gets"
     (tmp_path / "disk").write_bytes(fresh(REHEARSAL))
     for end in ("> /dev/full", ">&-"):
         ran = run(["sh", "-c", f'exec "$0" "$1" "$2" {end}', sys.executable, READER, tmp_path / "disk"])
-        same(f"a fault with {end}", (1, b"zhcount-read: write\n"), (ran.returncode, ran.stderr))
+        assert (ran.returncode, ran.stderr) == (1, b"zhcount-read: write\n"), f"a fault with {end}"
 
 
 def test_beside_a_run(new_room):
@@ -302,5 +302,5 @@ def test_beside_a_run(new_room):
     office = new_room.process(Desk, [PROGRAM, "run", "--setup", new_room.setup, "--disk", new_room.disk])
     for votes in range(1, 4):
         office.talk(f"1 return 1 1 {votes} {votes} -> 1 stored {votes}")
-        same("what is read", ("", b"municipality,list,number,votes\n1,1,%d,%d\n" % (votes, votes)), read(new_room.disk))
-    same("the status of run", 0, office.end())
+        assert read(new_room.disk) == ("", b"municipality,list,number,votes\n1,1,%d,%d\n" % (votes, votes)), "what is read"
+    assert office.end() == 0, "the status of run"

@@ -10,7 +10,6 @@ from counting import random_line
 from logs import Written
 from nights import Night
 from places import REHEARSAL
-from processes import same, that
 
 NIGHTS = int(os.environ.get("NIGHTS", "24"))
 
@@ -20,21 +19,21 @@ def test_lost_line(night):
     night.begin(["1 return 2 1 1 240", "1 close 1"], "lost")
     night.begin(["4 return 3 1 1 90"], "lost")
     said, export = night.made()
-    same("what is held", "municipality,list,number,votes\n2,1,1,240\n", export)
-    that(f"the closing was given again: {said}", ",closed," in night.zhcount("status", disk=night.new))
-    that(f"what was compared: {said}", said.startswith("the same: the answers to 2 lines in 2 starts, and the export\n"))
-    that(f"what is left out: {said}", "desk 4: return 3 1 1 90: not answered, and left out\n" in said)
+    assert export == "municipality,list,number,votes\n2,1,1,240\n", "what is held"
+    assert ",closed," in night.zhcount("status", disk=night.new), f"the closing was given again: {said}"
+    assert said.startswith("the same: the answers to 2 lines in 2 starts, and the export\n"), f"what was compared: {said}"
+    assert "desk 4: return 3 1 1 90: not answered, and left out\n" in said, f"what is left out: {said}"
 
 
 def test_kept_line(night):
     """a line that a stop kept is run once its answer is noted, and before that it is left out"""
     night.begin(["1 return 1 1 1 525", "1 return 1 1 2 530"], "kept")
     night.begin(["2 close 1"], "kept")
-    same("what is held without the closing", night.shown, night.made()[1])
-    that("it is open", ",closed," not in night.zhcount("status", disk=night.new))
+    assert night.made()[1] == night.shown, "what is held without the closing"
+    assert ",closed," not in night.zhcount("status", disk=night.new), "it is open"
     night.begin(["3 show 1 1"])
-    same("what is held", night.count.export(), night.made()[1])
-    that("it is closed", ",closed," in night.zhcount("status", disk=night.new))
+    assert night.made()[1] == night.count.export(), "what is held"
+    assert ",closed," in night.zhcount("status", disk=night.new), "it is closed"
 
 
 def test_batch_over_stops(night):
@@ -43,7 +42,7 @@ def test_batch_over_stops(night):
     night.begin(["1 row 1 2 1 300", "2 commit", "1 commit"], "lost")
     night.begin(["3 sheet", "1 open", "1 row 3 1 1 90", "1 drop"])
     said, export = night.made()
-    same(f"what is held: {said}", "municipality,list,number,votes\n1,1,1,525\n1,2,1,300\n2,1,1,240\n2,2,1,330\n", export)
+    assert export == "municipality,list,number,votes\n1,1,1,525\n1,2,1,300\n2,1,1,240\n2,2,1,330\n", f"what is held: {said}"
 
 
 def test_by_hand(night):
@@ -53,10 +52,10 @@ def test_by_hand(night):
     night.type("1 withdraw 2 1 2", "1 close 3", "8 return 2 2 1 330")
     night.begin(["2 return 2 3 1 30"])
     said, export = night.made()
-    same("what is held", "municipality,list,number,votes\n1,1,2,530\n1,2,1,300\n2,1,2,withdrawn\n2,2,1,330\n2,3,1,30\n", export)
-    that("the closing is there", ",closed," in night.zhcount("status", disk=night.new))
+    assert export == "municipality,list,number,votes\n1,1,2,530\n1,2,1,300\n2,1,2,withdrawn\n2,2,1,330\n2,3,1,30\n", "what is held"
+    assert ",closed," in night.zhcount("status", disk=night.new), "the closing is there"
     number = [it.number for it in night.log.events if it.kind == "loaded"][-1]
-    that(f"it says so: {said}", f"event {number}: what came by hand before it is in its image" in said)
+    assert f"event {number}: what came by hand before it is in its image" in said, f"it says so: {said}"
 
 
 def test_from_the_last_image(night):
@@ -66,10 +65,10 @@ def test_from_the_last_image(night):
     night.begin(["2 return 2 1 1 240"])
     first = next(it.number for it in night.log.events if it.kind == "answer")
     night.log = night.log.edited(first, "stored 1", "stored 7")
-    same("what is held", night.count.export(), night.made()[1])
+    assert night.made()[1] == night.count.export(), "what is held"
     said = night.replay(status=1)
     wanted = f"not the same: event {first}, desk 1: return 1 1 1 525: noted is 'stored 7', and here 'stored 1'"
-    that(f"the first answer: {said}", wanted in said)
+    assert wanted in said, f"the first answer: {said}"
 
 
 def test_export_of_an_image(night):
@@ -90,7 +89,7 @@ def test_without_memory(night):
     night.log.add("line", "row 1 3 1 175", 1, night.turns[1])
     night.note_answer("1 row 1 3 1 175", "refused memory")
     night.send(["1 commit"])
-    same("what is held", night.count.export(), night.made()[1])
+    assert night.made()[1] == night.count.export(), "what is held"
     night.replay()
 
 
@@ -100,8 +99,8 @@ def test_strange_names():
     with Night(setup) as night:
         night.begin(["1 return 1 1 1 525", "1 return 2 1 1 240", "2 return 3 1 1 90", "1 sheet", "2 sheet"])
         night.end()
-        same("what is held", night.count.export(), night.made()[1])
-        that("a replay", "the same: the answers to 5 lines in 1 start" in night.replay())
+        assert night.made()[1] == night.count.export(), "what is held"
+        assert "the same: the answers to 5 lines in 1 start" in night.replay(), "a replay"
 
 
 def test_used_again(night):
@@ -110,16 +109,16 @@ def test_used_again(night):
     night.put()
     night.disk.unlink()
     said = night.zhcount_office("--rebuild", night.folder, night.disk)
-    that(f"it is said: {said}", "desk 1: return 1 1 2 530: not answered, and left out\n" in said)
+    assert "desk 1: return 1 1 2 530: not answered, and left out\n" in said, f"it is said: {said}"
     night.start()
     night.desk(2).talk("row 2 2 1 330 -> held 2", "commit -> stored 3")
     night.desk(1).says("before: return 1 1 2 530: stored 2")
     night.stop()
     export = night.zhcount("export")
-    same("what is held", "municipality,list,number,votes\n1,1,2,530\n2,1,1,240\n2,2,1,330\n", export)
+    assert export == "municipality,list,number,votes\n1,1,2,530\n2,1,1,240\n2,2,1,330\n", "what is held"
     night.disk.unlink()
-    that("it is made again", "answers to 6 lines in 2 starts" in night.zhcount_office("--rebuild", night.folder, night.disk))
-    same("what is held", export, night.zhcount("export"))
+    assert "answers to 6 lines in 2 starts" in night.zhcount_office("--rebuild", night.folder, night.disk), "it is made again"
+    assert night.zhcount("export") == export, "what is held"
 
 
 def by_chance(night, chance):
@@ -153,8 +152,8 @@ def test_nights_by_chance(night, seed):
         fate = chance.choice(["answered", "kept", "lost"])
         night.send(lines_by_chance(night, chance), fate)
     said, export = night.made()
-    same(f"what is held after {fate}, {night.owed}: {said}", night.shown, export)
-    that("a replay", "the same: " in night.replay())
+    assert export == night.shown, f"what is held after {fate}, {night.owed}: {said}"
+    assert "the same: " in night.replay(), "a replay"
 
 
 def test_a_changed_log_is_refused(night):

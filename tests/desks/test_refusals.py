@@ -9,7 +9,6 @@ import pytest
 
 from logs import events
 from places import PROGRAM
-from room import same, that
 
 BEFORE = ["return 1 1 1 525 -> stored 1", "return 1 2 1 300 -> stored 2", "close 2 -> stored 3"]
 
@@ -36,7 +35,7 @@ def test_another_disk(room, lines, text):
         room.start().says("1 command came in by hand before this start")
         return
     room.refuses(text, "not the disk of this log")
-    same("nothing is noted", number, len(room.events()))
+    assert len(room.events()) == number, "nothing is noted"
     os.replace(own, room.disk)
     room.start()
     room.check()
@@ -56,13 +55,13 @@ def test_used_disk(new_room):
     new_room.by_hand("return 1 1 1 525", "close 2")
     new_room.refuses(f"{new_room.disk} has 2 commands, but {new_room.folder} has no log of them: take a new disk, or, if it is meant, "
                      "begin the log by --take")
-    that("nothing is noted of a start", not events(new_room.folder, "start", "loaded"))
-    that("it is said", "the disk is taken with its 2 commands" in take(new_room))
+    assert not events(new_room.folder, "start", "loaded"), "nothing is noted of a start"
+    assert "the disk is taken with its 2 commands" in take(new_room), "it is said"
     new_room.start()
-    same("the answers", ["shows 1 525", "stored 3"], new_room.ask(1, "show 1 1", "return 1 2 1 300").out)
+    assert new_room.ask(1, "show 1 1", "return 1 2 1 300").out == ["shows 1 525", "stored 3"], "the answers"
     new_room.restart()
     new_room.check()
-    same("the export is that of the disk made anew", new_room.zhcount("export"), new_room.rebuilt())
+    assert new_room.rebuilt() == new_room.zhcount("export"), "the export is that of the disk made anew"
 
 
 def take(room, status=0):
@@ -72,13 +71,13 @@ def take(room, status=0):
 def test_take_is_for_a_new_folder(room):
     """no disk is taken in a folder that has a start, and none with another set-up, or while another program has it"""
     room.ask(1, "return 1 1 1 525", "return 1 2 1 300")
-    that("while an office runs", f"another office, witness or replay has {room.folder}" in take(room, 3))
+    assert f"another office, witness or replay has {room.folder}" in take(room, 3), "while an office runs"
     room.stop()
     number = len(room.events())
     room.disk.unlink()
     room.zhcount("format")
-    that("it is refused", f"{room.folder} has a log already" in take(room, 3))
-    same("nothing is noted", number, len(room.events()))
+    assert f"{room.folder} has a log already" in take(room, 3), "it is refused"
+    assert len(room.events()) == number, "nothing is noted"
     room.refuses("the disk has 0 commands, and not all of the log's 2")
 
 
@@ -86,17 +85,17 @@ def test_run_beside_a_start(new_room):
     """what another program stores while the office starts is in what it compares: the copy is of the time when `run` has the disk"""
     flag, held = new_room.path / "flag", new_room.path / "held"
     new_room.start()
-    same("the answer", ["stored 1"], new_room.ask(1, "return 1 1 1 525").out)
+    assert new_room.ask(1, "return 1 1 1 525").out == ["stored 1"], "the answer"
     new_room.stop()
     # Just before the office's run opens the disk, one by hand stores a command.
     new_room.stands_in(f"""if [ $1 = run ] && mkdir '{flag}' 2> /dev/null; then
         printf '1 return 1 2 1 300\\n' | '{PROGRAM}' run --setup '{new_room.setup}' --disk '{new_room.disk}' > '{held}'
     fi""")
     new_room.start().says("1 command came in by hand before this start")
-    same("it was stored", "1 stored 2\n", held.read_text())
-    same("the answer", ["stored 3"], new_room.ask(1, "return 1 3 1 120").out)
+    assert held.read_text() == "1 stored 2\n", "it was stored"
+    assert new_room.ask(1, "return 1 3 1 120").out == ["stored 3"], "the answer"
     new_room.stop()
-    same("the export is that of the disk made anew", new_room.zhcount("export"), new_room.rebuilt())
+    assert new_room.rebuilt() == new_room.zhcount("export"), "the export is that of the disk made anew"
 
 
 def test_load_beside_an_end(new_room):
@@ -105,16 +104,16 @@ def test_load_beside_an_end(new_room):
     table.write_text("municipality,list,number,votes\n3,1,1,90\n")
     words = f"'{PROGRAM}' load --setup '{new_room.setup}' --disk '{new_room.disk}' --csv '{table}'"
     new_room.start()
-    same("the answer", ["stored 1"], new_room.ask(1, "return 1 1 1 525").out)
+    assert new_room.ask(1, "return 1 1 1 525").out == ["stored 1"], "the answer"
     # The load tries again and again, and so has the disk as soon as the office lets go of it.
     loader = new_room.process(type(new_room.office), ["bash", "-c", f"until {words} 2> /dev/null; do :; done"])
-    same("the end", 0, new_room.stop())
-    same("the load", 0, loader.wait())
+    assert new_room.stop() == 0, "the end"
+    assert loader.wait() == 0, "the load"
     facts = [it.facts() for it in new_room.events() if it.kind == "ended"][-1]
-    same("what the end has noted", 1, facts["commands"])
+    assert facts["commands"] == 1, "what the end has noted"
     new_room.start().says("1 command came in by hand before this start")
     new_room.stop()
-    same("the export is that of the disk made anew", new_room.zhcount("export"), new_room.rebuilt())
+    assert new_room.rebuilt() == new_room.zhcount("export"), "the export is that of the disk made anew"
 
 
 # A log that is not this office's
@@ -126,7 +125,7 @@ def test_another_set_up(room):
     text, number = room.setup.read_text(), len(room.events())
     room.setup.write_text(text + "# other\n")
     room.refuses(f"{room.setup} is not the set-up of this log: give the right one, or another folder and a new disk")
-    same("nothing is noted", number, len(room.events()))
+    assert len(room.events()) == number, "nothing is noted"
     room.setup.write_text(text)
     room.start()
     room.check()
@@ -156,7 +155,7 @@ def test_file_that_is_no_log(new_room):
     path = new_room.folder / "night.db"
     path.write_bytes(b"something else" * 1000)
     new_room.refuses("night.db")
-    same("it is left", b"something else" * 1000, path.read_bytes())
+    assert path.read_bytes() == b"something else" * 1000, "it is left"
 
 
 def test_half_of_a_log(room):
@@ -176,4 +175,4 @@ def test_older_folder(new_room):
     new_room.folder.chmod(0o2750)
     (new_room.folder / "protocol").touch()
     new_room.refuses(f"{new_room.folder} has the transcripts of an older zhcount: end that count with the scripts that it was begun with")
-    same("what is there", ["protocol"], os.listdir(new_room.folder))
+    assert os.listdir(new_room.folder) == ["protocol"], "what is there"

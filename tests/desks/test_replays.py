@@ -5,7 +5,6 @@ import json
 import pytest
 
 from places import PROGRAM
-from processes import same, that
 
 LINES = ["1 return 1 1 1 525", "2 return 2 1 1 240", "1 return 3 1 1 90", "1 sheet", "1 withdraw 3 1 2", "1 open", "1 row 1 2 1 300",
          "1 commit"]
@@ -29,8 +28,8 @@ def test_the_same(written):
     """replay and rebuild say what they have compared, and the sum of the last event"""
     last = written.log.events[-1]
     wanted = f"the same: the answers to 12 lines in 2 starts, and the export\nevent {last.number}: {last.sum}\n"
-    same("a replay", wanted, written.replay())
-    same("a rebuild", wanted, written.rebuild())
+    assert written.replay() == wanted, "a replay"
+    assert written.rebuild() == wanted, "a rebuild"
 
 
 @pytest.mark.parametrize("kind, text, old, new, wanted", [
@@ -58,7 +57,7 @@ def test_end_that_could_not_look(written):
     event = written.log.events[-1]
     other = written.log.edited(event.number, event.text, json.dumps({"reason": "no reason", "commands": None, "export": None}))
     other.put()
-    that("a replay", "the same: " in written.replay())
+    assert "the same: " in written.replay(), "a replay"
 
 
 def test_another_program(written):
@@ -69,9 +68,9 @@ def test_another_program(written):
     log.put()
     wanted = f"zhcount is another one here: its SHA-256 is {program}, and in start 1 it was {other}\nthe same: "
     for said in (written.replay(), written.rebuild()):
-        that(f"it is said: {said}", said.startswith(wanted))
+        assert said.startswith(wanted), f"it is said: {said}"
     written.log.put()
-    that("the same one is not", "another program" not in written.replay())
+    assert "another program" not in written.replay(), "the same one is not"
 
 
 def test_dropped_batch(night):
@@ -80,8 +79,8 @@ def test_dropped_batch(night):
     night.drop(1, "row 1 1 1 525: refused memory")
     night.begin(["1 commit", "1 open", "1 row 1 1 1 526", "1 commit"])
     night.end()
-    same("what is held", "municipality,list,number,votes\n1,1,1,526\n2,1,1,240\n", night.made()[1])
-    that("a replay", "the same: " in night.replay())
+    assert night.made()[1] == "municipality,list,number,votes\n1,1,1,526\n2,1,1,240\n", "what is held"
+    assert "the same: " in night.replay(), "a replay"
 
 
 def test_programs_that_fail(night):

@@ -11,7 +11,7 @@ import time
 
 from now import NEVER, QuickRoom
 from processes import SECONDS, Desk
-from room import running, same, that, until
+from room import running, until
 
 
 def at_socket(room, *sent, seconds=SECONDS, more_seconds=SECONDS):
@@ -58,10 +58,10 @@ def test_garbage(room):
         got, has_ended = at_socket(room, HELLO, data)
         said = [json.loads(it) for it in got.split(b"\n")[:-1]]
         is_said = len(data) > 65536 or "log" in said[0] and "refused" in said[-1]
-        that(f"{data[:60]} ends the connection: {got}", has_ended and is_said)
+        assert has_ended and is_said, f"{data[:60]} ends the connection: {got}"
     for hello in NO_DESKS:
         got, has_ended = at_socket(room, hello)
-        that(f"{hello[:60]} is no desk: {got}", has_ended and b"refused" in got)
+        assert has_ended and b"refused" in got, f"{hello[:60]} is no desk: {got}"
     chance = random.Random(86)
     for _ in range(100):
         data = bytearray(HELLO + line_of(1, "show 1 1") + line_of(2, "row 1 1 1 1"))
@@ -69,7 +69,7 @@ def test_garbage(room):
             at = chance.randrange(len(data))
             data[at:at + chance.randint(0, 3)] = bytes(chance.randrange(256) for _ in range(chance.randint(0, 3)))
         at_socket(room, bytes(data), seconds=0.02)
-    same("the lines of desk 3", [], room.of_desk(3))
+    assert room.of_desk(3) == [], "the lines of desk 3"
     good.talk("show 1 1 -> shows 1 525").end()
     room.check({1: ["return 1 1 1 525", "show 1 1"]})
 
@@ -79,10 +79,10 @@ def test_turns(room):
     room.ask(1, "return 1 1 1 525")
     room.restart()
     for turn in (3, 1):
-        that(f"turn {turn} is refused", at_socket(room, b'{"desk": 1}\n', line_of(turn, "close 1"))[1])
+        assert at_socket(room, b'{"desk": 1}\n', line_of(turn, "close 1"))[1], f"turn {turn} is refused"
     got, _ = at_socket(room, b'{"desk": 1}\n', line_of(2, "show 1 1"), line_of(3, "show 1 2"), more_seconds=1)
-    same("the answers", ["shows 1 525", "none"], [json.loads(it)["answer"] for it in got.split(b"\n")[1:-1]])
-    same("what is noted", ["return 1 1 1 525", "show 1 1", "show 1 2"], [it for it, _ in room.of_desk(1)])
+    assert [json.loads(it)["answer"] for it in got.split(b"\n")[1:-1]] == ["shows 1 525", "none"], "the answers"
+    assert [it for it, _ in room.of_desk(1)] == ["return 1 1 1 525", "show 1 1", "show 1 2"], "what is noted"
     room.check()
 
 
@@ -101,18 +101,18 @@ def test_nobody_is_disturbed(room):
     with contextlib.suppress(OSError):  # until it is full, or ended
         for turn in range(1, 20000):
             flood.sendall(line_of(turn, "show 1 1"))
-    that("few of them are kept", len(os.listdir(f"/proc/{room.office.process.pid}/fd")) < 100)
+    assert len(os.listdir(f"/proc/{room.office.process.pid}/fd")) < 100, "few of them are kept"
     took = []
     for number in range(1, 31):
         began = time.monotonic()
         good.talk(f"return 1 1 {number} 525 -> stored {number}")
         took.append(time.monotonic() - began)
-    that(f"the seconds that an answer took: {sorted(took)[-3:]}", sorted(took)[15] < 5)
-    same("another one is let in", ["shows 30 525"], room.ask(4, "show 1 1").out)
+    assert sorted(took)[15] < 5, f"the seconds that an answer took: {sorted(took)[-3:]}"
+    assert room.ask(4, "show 1 1").out == ["shows 30 525"], "another one is let in"
     for it in (*idle, flood):
         it.close()
     stopped.kill(signal.SIGCONT)
-    same("the stopped one goes on", "none", stopped.answer())
+    assert stopped.answer() == "none", "the stopped one goes on"
     room.check()
 
 
@@ -130,12 +130,12 @@ def test_long_sheet_that_waits(new_room):
         at.recv(65536)
         at.sendall(line_of(1, "sheet"))
         until("it is answered", lambda: new_room.of_desk(3))
-        same("another desk's answer", ["shows 1 90"], new_room.ask(2, "show 1 1").out)
+        assert new_room.ask(2, "show 1 1").out == ["shows 1 90"], "another desk's answer"
         with contextlib.suppress(TimeoutError):
             while not got.endswith(b"\n"):
                 got += at.recv(65536)
-    same("the length of its second line", 10 << 15, got.count(b"X"))
-    same("the length as it is shown", 10 << 15, desk.send("sheet").split("\n")[1].count("X"))
+    assert got.count(b"X") == 10 << 15, "the length of its second line"
+    assert desk.send("sheet").split("\n")[1].count("X") == 10 << 15, "the length as it is shown"
     new_room.stop()
 
 
@@ -144,7 +144,7 @@ def test_long_path(new_room):
     new_room.folder = new_room.path / ("long" * 30) / ("longer" * 20)
     new_room.folder.parent.mkdir()
     new_room.start()
-    same("the answer", ["stored 1"], new_room.ask(1, "return 1 1 1 525").out)
+    assert new_room.ask(1, "return 1 1 1 525").out == ["stored 1"], "the answer"
     words = ["env", "-C", new_room.folder.parent, *new_room.script("zhcount-desk", "1", new_room.folder.name)]
     desk = new_room.process(Desk, words).talk("show 1 1 -> shows 1 525")
     new_room.restart()
@@ -161,13 +161,13 @@ def test_what_the_group_may_use():
         for path in room.folder.rglob("*"):
             mode = path.lstat().st_mode & 0o777
             if path.name == "desk":
-                same("the socket", 0o660, mode)
+                assert mode == 0o660, "the socket"
             elif not path.is_symlink():
                 may = 0o077 if path.name.startswith("night.db") else 0o022 if "publish" in path.parts else 0o027
-                same(f"what the group may do to {path.name}", 0, mode & may)
+                assert mode & may == 0, f"what the group may do to {path.name}"
         inodes = {path.lstat().st_ino for path in room.folder.rglob("*") if path.lstat().st_mode & 0o070}
         locked = re.findall(r":(\d+) \d+ \S+$", pathlib.Path("/proc/locks").read_text(), re.MULTILINE)
-        same("locks on what the group may open", set(), {int(it) for it in locked} & inodes)
+        assert {int(it) for it in locked} & inodes == set(), "locks on what the group may open"
         room.check()
 
 
@@ -176,6 +176,6 @@ def test_garbage_does_not_fill_the_log(room):
     size = sum(len(it.text) for it in room.events())
     for _ in range(300):
         at_socket(room, HELLO, line_of(7, "x" * 100))
-    same("what is noted", size, sum(len(it.text) for it in room.events()))
-    that(f"few lines: {len(room.office.error)}", len(room.office.error) < 20)
+    assert sum(len(it.text) for it in room.events()) == size, "what is noted"
+    assert len(room.office.error) < 20, f"few lines: {len(room.office.error)}"
     room.check()

@@ -21,7 +21,7 @@ import pytest
 from canton import Canton, Chance
 from counting import counted
 from logs import check_chain
-from processes import HAS_ENDED, SECONDS, Desk, Process, same, that, until
+from processes import HAS_ENDED, SECONDS, Desk, Process, until
 from room import Room, running
 from witnessed import Witnessed, lines_at, night_that_is_lost, own_of
 
@@ -125,9 +125,9 @@ class Client:
                 self.desk.wait()
                 self.connect()
             self.sent.append(line)
-            that(f"desk {self.number} is connected: {self.desk.said()}", self.desk.send(line) != HAS_ENDED)
+            assert self.desk.send(line) != HAS_ENDED, f"desk {self.number} is connected: {self.desk.said()}"
             self.done += 1
-        same("the end of a desk", 0, self.desk.end())
+        assert self.desk.end() == 0, "the end of a desk"
 
 
 def test_side_by_side():
@@ -143,33 +143,33 @@ def test_side_by_side():
             room.restart()
         for it in runs:
             it.result(3 * SECONDS)
-        same("lines", [LINES] * 8, [it.done for it in clients.values()])
-        same("the end of the office", 0, room.stop())
-        same("desks whose connection was cut", [*CUT], [desk for desk, it in clients.items() if "before: " in it.desk.said()])
+        assert [it.done for it in clients.values()] == [LINES] * 8, "lines"
+        assert room.stop() == 0, "the end of the office"
+        assert [desk for desk, it in clients.items() if "before: " in it.desk.said()] == [*CUT], "desks whose connection was cut"
         for desk, it in clients.items():
-            same(f"the lines of desk {desk}", it.sent, [line for line, _ in room.of_desk(desk)])
-        same("what is held", counted(room.events(), canton).export(), room.zhcount("export"))
+            assert [line for line, _ in room.of_desk(desk)] == it.sent, f"the lines of desk {desk}"
+        assert room.zhcount("export") == counted(room.events(), canton).export(), "what is held"
         check_chain(room.folder)
-        that("a replay", "the same: " in room.replay())
+        assert "the same: " in room.replay(), "a replay"
 
 
 def test_a_key_is_a_desk(room):
     """a key speaks for no other desk, opens no shell, forwards no port, and a dead connection lets go"""
     ssh = Ssh(room).let_desks_in()
     _, out, error = ssh.ask(3, command=[*room.script("zhcount-desk", 4, room.folder)], text="return 1 1 1 525\n4 return 1 1 2 5\n")
-    same(f"the answers to desk 3: {error}", "stored 1\nrefused syntax\n", out)
-    same("the lines of desk 4", [], room.of_desk(4))
-    same("the lines of desk 3", ["return 1 1 1 525", "4 return 1 1 2 5"], [line for line, _ in room.of_desk(3)])
+    assert out == "stored 1\nrefused syntax\n", f"the answers to desk 3: {error}"
+    assert room.of_desk(4) == [], "the lines of desk 4"
+    assert [line for line, _ in room.of_desk(3)] == ["return 1 1 1 525", "4 return 1 1 2 5"], "the lines of desk 3"
     for options, command in ([], ["echo", "hello"]), ([], ["sh"]):
-        same(f"no shell by {command}", "shows 1 525\n", ssh.ask(3, options, command, "show 1 1\n")[1])
-    that("no other service", ssh.ask(3, ["-s"], ["sftp"], "show 1 1\n")[0])
+        assert ssh.ask(3, options, command, "show 1 1\n")[1] == "shows 1 525\n", f"no shell by {command}"
+    assert ssh.ask(3, ["-s"], ["sftp"], "show 1 1\n")[0], "no other service"
     _, out, error = ssh.ask(3, ["-tt"], text="echo $((6 * 7))\n")
-    that(f"no terminal: {out} {error}", "42" not in out and "PTY allocation request failed" in error)
+    assert "42" not in out and "PTY allocation request failed" in error, f"no terminal: {out} {error}"
     for options in (["-W", f"127.0.0.1:{ssh.port}"], ["-N", "-o", "ExitOnForwardFailure=yes", "-R", "0:127.0.0.1:9"]):
         status, out, error = ssh.ask(3, options)
-        same(f"no port by {options}: {out}", 255, status)
-        that(f"that is said: {error}", "prohibited" in error or "remote port forwarding failed" in error)
-    same("another key", 255, ssh.ask(9)[0])
+        assert status == 255, f"no port by {options}: {out}"
+        assert "prohibited" in error or "remote port forwarding failed" in error, f"that is said: {error}"
+    assert ssh.ask(9)[0] == 255, "another key"
     impatient, first = Ssh(room, alive=5).let_desks_in(), []
 
     def is_refused():
@@ -191,13 +191,13 @@ def test_table(room):
     there = until("the desk reads", lambda: reading(room))
     cut.kill()
     until("the desk has ended", lambda: not there.exists())
-    same("nothing is sent", [], room.noted())
+    assert room.noted() == [], "nothing is sent"
     for answer in ("stored 1", "same"):
         status, out, error = ssh.ask("table", ["-T"], ["show 1 1"], f"\ufeffGemeinde;Liste;Fassung;Stimmen\r\n{rows}3;1;1;90\r\n")
-        same(f"it is in: {error}", (0, f"{answer}\n"), (status, out))
+        assert (status, out) == (0, f"{answer}\n"), f"it is in: {error}"
     _, out, error = ssh.ask("table", ["-T"], text="Gemeinde;Liste;Fassung;Stimmen\r\n1;1;2;1'570\r\n")
-    same("a fault", ("", True), (out, "line 2: Stimmen is \"1'570\": write 1570, without a separator" in error))
-    same("the lines", ["open", "row 1 1 1 525", "row 1 2 1 300", "row 3 1 1 90", "commit"] * 2, room.noted())
+    assert (out, "line 2: Stimmen is \"1'570\": write 1570, without a separator" in error) == ("", True), "a fault"
+    assert room.noted() == ["open", "row 1 1 1 525", "row 1 2 1 300", "row 3 1 1 90", "commit"] * 2, "the lines"
     room.check()
 
 
@@ -225,7 +225,7 @@ def test_machine_is_lost():
 
         with concurrent.futures.ThreadPoolExecutor(6) as pool:
             shown = list(pool.map(night, range(LOSSES)))
-        that(f"answers were shown: {shown}", sum(shown) > 20 * LOSSES)
+        assert sum(shown) > 20 * LOSSES, f"answers were shown: {shown}"
 
 
 @pytest.mark.xdist_group("times")
@@ -242,12 +242,12 @@ def test_network_hangs():
         room.has_all()
         times = room.office.said().count(is_there)
         hung = int(re.search(r"PPid:\t(\d+)", pathlib.Path(f"/proc/{room.witness()}/status").read_text())[1])
-        that("it is sshd", b"sshd" in pathlib.Path(f"/proc/{hung}/cmdline").read_bytes())
+        assert b"sshd" in pathlib.Path(f"/proc/{hung}/cmdline").read_bytes(), "it is sshd"
         os.kill(hung, signal.SIGSTOP)
         try:
             begun = time.monotonic()
             desk.talk("return 1 1 2 530 -> stored 2")
-            that(f"after some five seconds: {time.monotonic() - begun}", 4 < time.monotonic() - begun < 40)
+            assert 4 < time.monotonic() - begun < 40, f"after some five seconds: {time.monotonic() - begun}"
             desk.says("no witness since")
             room.office.says("it has said nothing for 10 seconds")
             until("it is there again", lambda: room.office.said().count(is_there) > times)

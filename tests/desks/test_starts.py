@@ -2,7 +2,7 @@
 chosen moments, and by hand."""
 import pytest
 
-from room import same, that, until
+from room import until
 
 # What is there before the line without an answer: three commands, and a batch of desk 1.
 BEFORE = ["return 1 1 1 525 -> stored 1", "return 1 2 1 300 -> stored 2", "close 2 -> stored 3", "open -> held 0", "row 3 1 1 90 -> held 1",
@@ -23,7 +23,7 @@ def stopped(room, line, is_stored):
 def end(room, desk):
     """The end of a night: the batch of desk 1, where it is still there, and what everything says."""
     desk.send("commit")
-    same("the end of the desk", 0, desk.end())
+    assert desk.end() == 0, "the end of the desk"
     room.check()
 
 
@@ -34,10 +34,10 @@ def test_line_without_an_answer(room, kind, is_stored):
     line, wanted = KINDS[kind]
     desk = stopped(room, line, is_stored)
     room.start()
-    same("the answer", wanted, desk.answer(line))
+    assert desk.answer(line) == wanted, "the answer"
     is_found = is_stored and kind in COMMANDS
     room.office.says(f"desk 1: {line} is on the disk: stored 4" if is_found else f"desk 1: {line} is not on the disk: it is given again")
-    that("it is answered once", [it for it, _ in room.of_desk(1)].count(line) == 1 + (kind == "repeated"))
+    assert [it for it, _ in room.of_desk(1)].count(line) == 1 + (kind == "repeated"), "it is answered once"
     end(room, desk)
 
 
@@ -48,14 +48,14 @@ def test_line_after_a_load_by_hand(room, kind):
     desk = stopped(room, line, False)
     room.load("1,3,1,77", "3,3,1,50") if kind == "show" else room.load("1,3,1,77")
     room.start()
-    same("the answer", wanted.replace("4", "5"), desk.answer(line))
+    assert desk.answer(line) == wanted.replace("4", "5"), "the answer"
     room.office.says("1 command came in by hand before this start", f"desk 1: {line} is not on the disk: it is given again")
-    same("who set it", "last 0", desk.send("last 1 3"))
+    assert desk.send("last 1 3") == "last 0", "who set it"
     if kind != "commit":
         desk.send("commit")
     desk.end()
     room.stop()
-    same("the export is that of the disk made anew", room.zhcount("export"), room.rebuilt())
+    assert room.rebuilt() == room.zhcount("export"), "the export is that of the disk made anew"
 
 
 @pytest.mark.parametrize("is_stored, by_hand, answer, count", [
@@ -68,11 +68,11 @@ def test_not_the_lines_command(room, is_stored, by_hand, answer, count):
     desk = stopped(room, "return 1 1 2 530", is_stored)
     by_hand(room)
     room.start()
-    same("the answer", answer, desk.answer())
+    assert desk.answer() == answer, "the answer"
     room.office.says(f"{count} came in by hand before this start")
     desk.end()
     room.stop()
-    same("the export is that of the disk made anew", room.zhcount("export"), room.rebuilt())
+    assert room.rebuilt() == room.zhcount("export"), "the export is that of the disk made anew"
 
 
 @pytest.mark.parametrize("lines", [["withdraw 1 2 2"], ["close 1"], ["reopen 2"], ["close 3", "reopen 3"], ["return 1 1 2 530"],
@@ -84,13 +84,13 @@ def test_by_hand(room, lines):
     room.by_hand(*lines)
     status = room.zhcount("status")
     room.start().says(f"{len(lines)} command{'s' * (len(lines) > 1)} came in by hand")
-    same("a line then", f"stored {4 + len(lines)}", desk.send("return 3 3 1 50"))
+    assert desk.send("return 3 3 1 50") == f"stored {4 + len(lines)}", "a line then"
     desk.talk("drop -> dropped 2").end()
     room.stop()
     wanted = room.zhcount("export"), room.zhcount("status")
-    that(f"something has changed: {status}", status != wanted[1])
-    same("the disk that is made anew", wanted[0], room.rebuilt())
-    same("its status", wanted[1], room.zhcount("status", disk=room.path / "new.disk"))
+    assert status != wanted[1], f"something has changed: {status}"
+    assert room.rebuilt() == wanted[0], "the disk that is made anew"
+    assert room.zhcount("status", disk=room.path / "new.disk") == wanted[1], "its status"
 
 
 def test_closing_that_another_decided(room):
@@ -99,10 +99,10 @@ def test_closing_that_another_decided(room):
     desk.kill()
     desk.wait()
     room.start()
-    same("the other", ["stored 5", "none"], room.ask(2, "reopen 1", "show 3 1").out)
+    assert room.ask(2, "reopen 1", "show 3 1").out == ["stored 5", "none"], "the other"
     room.ask(1, "drop").says("before: close 1: stored 4", "a batch is open; its rows: 2; 'commit' or 'drop' it")
     room.restart()
-    same("the municipality stays open", ["stored 6"], room.ask(2, "return 1 1 2 530").out)
+    assert room.ask(2, "return 1 1 2 530").out == ["stored 6"], "the municipality stays open"
     room.check()
 
 
@@ -116,7 +116,7 @@ def test_no_answer_before_the_start(room):
     desk = room.desk(2)
     desk.write("return 1 1 1 526\n")
     until("run is started", lambda: room.child("run"))
-    that("nobody is let in", not desk.is_let_in())
+    assert not desk.is_let_in(), "nobody is let in"
     flag.unlink()
-    same("the answer", "refused conflict", desk.answer())
+    assert desk.answer() == "refused conflict", "the answer"
     room.check()

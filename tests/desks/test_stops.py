@@ -19,7 +19,7 @@ from typing import Tuple
 import pytest
 
 from logs import events
-from room import Room, same, that, until
+from room import Room, until
 from two_desks import Night
 from watch import ApartRoom, Device, Stop, WatchedRoom, restore
 
@@ -111,7 +111,7 @@ class StopOf(Stop):
     @classmethod
     def each(cls, who, is_all, least):
         kinds = cls(who, 0).run().kinds
-        that(f"calls of {who}: {len(kinds)}", len(kinds) > least)
+        assert len(kinds) > least, f"calls of {who}: {len(kinds)}"
         each([cls(who, number).run for number in chosen(kinds, is_all)])
 
 
@@ -147,8 +147,8 @@ class FaultOf(StopOf):
     def run(self):
         super().run()
         if self.is_of_events:
-            same(f"what is written after {self.call} has failed", [], self.later)
-            that(f"the office has ended with 3 after {self.call}", 3 in self.night.ended)
+            assert self.later == [], f"what is written after {self.call} has failed"
+            assert 3 in self.night.ended, f"the office has ended with 3 after {self.call}"
         return self
 
 
@@ -194,7 +194,7 @@ def test_power_is_cut(is_all):
     """a power cut before calls of the office and of the desks: what was shown is held, of the log and of the disk"""
     recorder = Recorder()
     recorder.run()
-    that(f"cuts: {len(recorder.cuts)}", len(recorder.cuts) > 80)
+    assert len(recorder.cuts) > 80, f"cuts: {len(recorder.cuts)}"
     cuts = [(*key[:2], *cut) for key, cut in recorder.cuts.items()]
     each([functools.partial(recorder.go_on_after, *cuts[number - 1]) for number in chosen(recorder.kinds, is_all)])
 
@@ -230,7 +230,7 @@ class Sent(StopOf):
         with WatchedRoom(self.before) as room:
             self.room, self.device, self.night = room.with_witness(), Device(room.path), Night(room)
             has_its_end(self.night, lambda: f"{self.who} before sync {self.number}")
-        same(f"what was sent, and is not on the device, after a stop of {self.who} before sync {self.number}", [], self.unsynced[:1])
+        assert self.unsynced[:1] == [], f"what was sent, and is not on the device, after a stop of {self.who} before sync {self.number}"
         return self
 
 

@@ -10,7 +10,7 @@ import pytest
 
 from processes import Desk
 from quiet import QuietRoom
-from room import running, same, that, until
+from room import running, until
 from test_socket import HELLO, line_of
 from watch import Stop, WatchedRoom
 
@@ -41,14 +41,14 @@ def enter(room, number, table):
 
 def is_in(room, number, table, answer):
     desk = enter(room, number, table)
-    same(f"it is in: {desk.said()}", (0, [answer]), (desk.status, desk.out))
+    assert (desk.status, desk.out) == (0, [answer]), f"it is in: {desk.said()}"
 
 
 def is_refused(room, number, table, *texts, out=()):
     desk = enter(room, number, table)
-    same(f"it is refused: {desk.said()}", (1, [*out]), (desk.status, desk.out))
+    assert (desk.status, desk.out) == (1, [*out]), f"it is refused: {desk.said()}"
     for it in texts:
-        that(f"'{it}' is said: {desk.said()}", f"zhcount-desk: {it}" in desk.error)
+        assert f"zhcount-desk: {it}" in desk.error, f"'{it}' is said: {desk.said()}"
     return desk
 
 
@@ -58,7 +58,7 @@ def is_refused(room, number, table, *texts, out=()):
 def test_from_a_swiss_excel(room):
     """semicolons, a byte order mark, CR LF, quoted cells and German titles: open, rows and commit, whose answer is shown"""
     is_in(room, 3, EXCEL, "stored 1")
-    same("what is sent", LINES, room.noted())
+    assert room.noted() == LINES, "what is sent"
     is_in(room, 4, TABLE, "same")
     room.check()
 
@@ -70,9 +70,9 @@ def test_other_forms(room):
     for number, table in enumerate(tables):
         is_in(room, 3, table, "same" if number else "stored 1")
     desk = started(room, 3, "", source="-")
-    same("the end", 0, desk.end(TABLE))
-    same("the answer", ["same"], desk.out)
-    same("what is sent", LINES * 6, room.noted())
+    assert desk.end(TABLE) == 0, "the end"
+    assert desk.out == ["same"], "the answer"
+    assert room.noted() == LINES * 6, "what is sent"
 
 
 def test_largest():
@@ -82,7 +82,7 @@ def test_largest():
         is_refused(room, 3, table + "32,32,1,5\n", "line 1002: the table has 1001 rows up to here; 1 to 1000 are allowed")
         room.ask(3, "open", *(f"row {it.replace(',', ' ')}" for it in table.split("\n")[1:-1]))
         is_in(room, 3, table, "stored 1")
-        same("lines", 1002, len(room.noted()))
+        assert len(room.noted()) == 1002, "lines"
 
 
 # What is refused before anything is sent
@@ -118,20 +118,20 @@ def test_faults(new_room, table, faults):
     """a table with faults is not sent: each is said with its line, and no office is looked for"""
     new_room.folder = pathlib.Path(os.devnull)  # a desk that looked for one would say that it can't
     desk = is_refused(new_room, 3, table, *faults)
-    that(f"nothing else is: {desk.said()}", re.search(r"desk 3: faults in the table: \d+; nothing was sent$", desk.error[-1]))
+    assert re.search(r"desk 3: faults in the table: \d+; nothing was sent$", desk.error[-1]), f"nothing else is: {desk.said()}"
     if len(faults) > 1:
-        same(f"the faults: {desk.said()}", len(faults), len(desk.error) - 1)
+        assert len(desk.error) - 1 == len(faults), f"the faults: {desk.said()}"
 
 
 def test_no_file(new_room):
     """a file that is not there, and one with many faults, of which the first twenty are said"""
     new_room.folder = pathlib.Path(os.devnull)
     desk = new_room.process(Desk, new_room.script("zhcount-desk", "3", new_room.folder, "--csv", new_room.path / "none"))
-    same("the end", 1, desk.wait())
+    assert desk.wait() == 1, "the end"
     desk.says("No such file or directory")
     desk = is_refused(new_room, 3, NAMES + "1,1,1,x\n" * 30, "line 21: votes is 'x', which is no whole number",
                       "desk 3: faults in the table: 30; nothing was sent")
-    same("what is said", 21, len(desk.error))
+    assert len(desk.error) == 21, "what is said"
 
 
 # What the office refuses
@@ -143,14 +143,14 @@ def test_batch_of_a_person(room, rows):
     room.ask(3, "open", *rows)
     is_refused(room, 3, TABLE, "desk 3: batchopen: this desk's batch does not have the same rows as the table: nothing was sent. 'commit' "
                "or 'drop' it first, or take another desk")
-    same("what is sent", ["open", *rows], room.noted())
-    same("the person's commit", ["stored 1"], room.ask(3, "commit").out)
+    assert room.noted() == ["open", *rows], "what is sent"
+    assert room.ask(3, "commit").out == ["stored 1"], "the person's commit"
 
 
 def test_refused_row(room):
     """a row that the office refuses is said with its line, and the batch is dropped"""
     is_refused(room, 3, TABLE.replace("1,2,", "1,4,"), "desk 3: line 3: row 1 4 1 300: refused list; nothing was entered")
-    same("what is sent", ["open", ROWS[0], "row 1 4 1 300", "drop"], room.noted())
+    assert room.noted() == ["open", ROWS[0], "row 1 4 1 300", "drop"], "what is sent"
     is_in(room, 3, TABLE, "stored 1")
     room.check()
 
@@ -165,8 +165,8 @@ def test_refused_commit(room, lines, refusal, line, shown):
     """the row that a commit was refused for is found by what is held, and said with its line; the batch is dropped"""
     room.ask(2, *lines)
     is_refused(room, 3, TABLE, f"desk 3: line {line}: refused {refusal} ({shown}); nothing was entered", out=[f"refused {refusal}"])
-    same("what is sent", [*LINES, "drop"], [it for it, _ in room.of_desk(3)][:6])
-    same("it is dropped", ["refused nobatch"], room.ask(3, "commit").out)
+    assert [it for it, _ in room.of_desk(3)][:6] == [*LINES, "drop"], "what is sent"
+    assert room.ask(3, "commit").out == ["refused nobatch"], "it is dropped"
     room.check()
 
 
@@ -182,14 +182,14 @@ def test_closed_meanwhile(room):
     with socket.socket(socket.AF_UNIX) as other:
         other.connect(str(room.folder / "desk"))
         other.sendall(HELLO.replace(b"3", b"2"))
-        that("it is let in", b"log" in other.recv(65536))
+        assert b"log" in other.recv(65536), "it is let in"
         run_process = room.run_of_office()
         os.kill(run_process, signal.SIGSTOP)
         desk = started(room, 3, TABLE)
         until("the office has taken its first line", lambda: room.noted() == ["open"])
         other.sendall(line_of(1, "close 3"))
         os.kill(run_process, signal.SIGCONT)
-        same("the end", 1, desk.wait())
+        assert desk.wait() == 1, "the end"
         desk.says("refused closed; nothing was entered, and the count has changed meanwhile: give the same command again")
     is_refused(room, 3, TABLE, "desk 3: line 4: row 3 1 1 90: refused closed (show 3 1: none); nothing was entered", out=["refused closed"])
 
@@ -204,11 +204,11 @@ def test_interrupted(room):
     desk = started(room, 3, TABLE)
     until("the office has taken its first line", lambda: room.noted() == ["open"])
     desk.kill(signal.SIGINT)
-    same("the end", 1, desk.wait())
+    assert desk.wait() == 1, "the end"
     desk.says("desk 3: told to end", "without an answer: open; the same command finishes the table")
     os.kill(run_process, signal.SIGCONT)
     is_in(room, 3, TABLE, "stored 1")
-    same("what is sent", LINES, room.noted())
+    assert room.noted() == LINES, "what is sent"
 
 
 class StopOf(Stop):
@@ -252,12 +252,12 @@ def test_stopped_at_each_call(watched_room):
         status = stopped(room, version, versions(version))
         held = room.ask(2, *PLACES).out
         none = [f"shows {version - 1} {version + 9}" if version > 1 else "none"] * 3
-        that(f"after call {version} there is {held}", held in ([whole] if status == 0 else [none, whole]))
+        assert held in ([whole] if status == 0 else [none, whole]), f"after call {version} there is {held}"
         is_in(room, 1, versions(version), "same" if held == whole else f"stored {version}")
-        same("all of it is held", whole, room.ask(2, *PLACES).out)
+        assert room.ask(2, *PLACES).out == whole, "all of it is held"
         sent = len(room.noted()) - before - 2 * len(PLACES)
-        same(f"lines after a stop at call {version}, where {held}", 2 * len(LINES) if held == whole else len(LINES), sent)
-    that(f"calls: {version - 1}", version > 7)
+        assert sent == (2 * len(LINES) if held == whole else len(LINES)), f"lines after a stop at call {version}, where {held}"
+    assert version > 7, f"calls: {version - 1}"
     room.check()
 
 
@@ -271,9 +271,9 @@ def test_stopped_as_it_is_refused(watched_room):
         status = stopped(room, number, TABLE)
         is_refused(room, 1, TABLE, "desk 1: line 3: row 1 2 1 300: refused conflict (show 1 2: shows 1 301); nothing was entered",
                    out=["refused conflict"])
-        same("there is nothing of it", ["refused nobatch", "none", "shows 1 301", "none"], room.ask(1, "commit", *PLACES).out)
-    same("the end", 1, status)
-    that(f"calls: {number - 1}", number > 9)
+        assert room.ask(1, "commit", *PLACES).out == ["refused nobatch", "none", "shows 1 301", "none"], "there is nothing of it"
+    assert status == 1, "the end"
+    assert number > 9, f"calls: {number - 1}"
     room.check()
 
 
@@ -290,6 +290,6 @@ def test_office_is_stopped(watched_room):
             stops += 1
             room.start()
         room.before = lambda call: 0
-        same(f"the end of the desk: {desk.said()}", (0, [f"stored {version}"]), (desk.wait(), desk.out))
-    that(f"stops: {stops}", stops > 2)
+        assert (desk.wait(), desk.out) == (0, [f"stored {version}"]), f"the end of the desk: {desk.said()}"
+    assert stops > 2, f"stops: {stops}"
     room.check({1: room.noted()})

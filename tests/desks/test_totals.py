@@ -6,7 +6,6 @@ import sys
 
 import pytest
 
-from processes import same
 from room import SCRIPTS
 
 CALL = "import sys; sys.path[:0] = [sys.argv[1]]; import zhcount_tables; print(zhcount_tables.totals_in(sys.argv[2], '1 2 3'.split()))"
@@ -35,14 +34,14 @@ def test_totals(tmp_path, text, totals, remarks):
     """a total counts for each row that is right, each other one is named with its line, and one without votes is not known yet"""
     path = tmp_path / "totals.csv"
     path.write_bytes(text)
-    same("the totals and remarks", (totals, remarks), read(path))
+    assert read(path) == (totals, remarks), "the totals and remarks"
 
 
 def test_no_file(tmp_path):
     """what is no file of totals is said, and not waited for"""
     (tmp_path / "long").write_bytes(bytes(2_000_000))
-    same("a long one", ({}, ["FILE can't be read: it has more than 1048576 bytes"]), read(tmp_path / "long"))
+    assert read(tmp_path / "long") == ({}, ["FILE can't be read: it has more than 1048576 bytes"]), "a long one"
     os.mkfifo(tmp_path / "pipe")
-    same("none", ({}, ["FILE can't be read: [Errno 2] No such file or directory: 'FILE'"]), read(tmp_path / "none"))
-    same("a folder", ({}, ["FILE can't be read: [Errno 21] Is a directory: 'FILE'"]), read(tmp_path))
-    same("a pipe", ({}, ["FILE can't be read: it is not a file"]), read(tmp_path / "pipe"))
+    assert read(tmp_path / "none") == ({}, ["FILE can't be read: [Errno 2] No such file or directory: 'FILE'"]), "none"
+    assert read(tmp_path) == ({}, ["FILE can't be read: [Errno 21] Is a directory: 'FILE'"]), "a folder"
+    assert read(tmp_path / "pipe") == ({}, ["FILE can't be read: it is not a file"]), "a pipe"

@@ -13,7 +13,7 @@ import pytest
 from canton import Canton, Chance
 from logs import check_chain, last_sum
 from places import TOP
-from processes import same, stays, that, until
+from processes import stays, until
 from room import Room, running
 from witnessed import Witnessed, check_what_is_held, enter, leave, night_that_is_lost, wait_for_answers
 
@@ -22,17 +22,17 @@ ROOM = Witnessed
 
 def test_mirrored(room):
     """the witness has each event, before and after a stop of the office, and from it the disk can be made anew"""
-    same("the answers", ["stored 1", "held 0", "held 1", "stored 2"],
-         room.ask(1, "return 1 1 1 525", "open", "row 2 1 1 240", "commit").out)
+    answers = room.ask(1, "return 1 1 1 525", "open", "row 2 1 1 240", "commit").out
+    assert answers == ["stored 1", "held 0", "held 1", "stored 2"]
     room.has_all()
     room.restart()
-    same("the answer", ["stored 3"], room.ask(2, "return 3 1 1 90").out)
+    assert room.ask(2, "return 3 1 1 90").out == ["stored 3"], "the answer"
     room.has_all()
-    same("the end", 0, room.stop())
+    assert room.stop() == 0, "the end"
     room.check()
     check_chain(room.copy)
-    same("who may use it", "-rw-------", stat.filemode((room.copy / "night.db").stat().st_mode))
-    same("the export", room.zhcount("export"), room.zhcount("export", disk=room.rebuilt_from_witness()))
+    assert stat.filemode((room.copy / "night.db").stat().st_mode) == "-rw-------", "who may use it"
+    assert room.zhcount("export", disk=room.rebuilt_from_witness()) == room.zhcount("export"), "the export"
 
 
 def test_goes_on_without(room):
@@ -42,11 +42,11 @@ def test_goes_on_without(room):
     room.lose_witness()
     desk.talk("return 1 1 2 530 -> stored 2")
     room.office.says("no witness since")
-    that(f"the folder says it: {room.said_of_it()}", room.said_of_it().startswith("no witness since"))
+    assert room.said_of_it().startswith("no witness since"), f"the folder says it: {room.said_of_it()}"
     desk.talk("show 2 1 -> none").says("no witness since")
     late = room.desk(2)
     late.says("no witness since")
-    same("what it was shown", [], late.out)
+    assert late.out == [], "what it was shown"
     room.away.unlink()
     room.has_all()
     until("the log says it", lambda: room.office.said().count("the witness has been connected since") == 2)
@@ -55,8 +55,8 @@ def test_goes_on_without(room):
     room.has_all()
     room.lose_witness()
     until("it is away", lambda: room.said_of_it().startswith("no witness since"))
-    same("the end", 0, room.stop())
-    same("the last event", ("ended", "told to"), (room.events()[-1].kind, room.events()[-1].facts()["reason"]))
+    assert room.stop() == 0, "the end"
+    assert (room.events()[-1].kind, room.events()[-1].facts()["reason"]) == ("ended", "told to"), "the last event"
     room.away.unlink()
     room.start()
     room.check()
@@ -71,19 +71,19 @@ def test_waits_for_it():
         room.note(desk, "return 1 1 2 530")
         stays("no answer is shown", lambda: len(desk.out) == 1, 7)
         desk.says("waiting for the witness since")
-        that("the folder says it", room.said_of_it().startswith("waiting for the witness since"))
+        assert room.said_of_it().startswith("waiting for the witness since"), "the folder says it"
         room.away.unlink()
-        same("the answer", "stored 2", desk.answer())
+        assert desk.answer() == "stored 2", "the answer"
         room.lose_witness()
         until("it is away", lambda: room.said_of_it().startswith("waiting for the witness since"))
         room.note(desk, "return 1 1 3 540")
         until("it is on the disk", lambda: room.events()[-1].text == "stored 3")
-        same("the end", 0, room.stop())
+        assert room.stop() == 0, "the end"
         room.office.says("unanswered: desk 1: return 1 1 3 540: the next start looks")
-        same("what desk 1 was shown", ["stored 1", "stored 2"], desk.out)
+        assert desk.out == ["stored 1", "stored 2"], "what desk 1 was shown"
         room.away.unlink()
         room.start()
-        same("the answer", "stored 3", desk.answer())
+        assert desk.answer() == "stored 3", "the answer"
         room.check()
 
 
@@ -96,12 +96,12 @@ def test_silent_witness(new_room):
     room.has_all()
     room.signal(signal.SIGSTOP)
     begun = time.monotonic()
-    same("the answer", "stored 1", desk.send("return 1 1 1 525"))
-    that(f"after some five seconds: {time.monotonic() - begun}", 4 < time.monotonic() - begun < 40)
+    assert desk.send("return 1 1 1 525") == "stored 1", "the answer"
+    assert 4 < time.monotonic() - begun < 40, f"after some five seconds: {time.monotonic() - begun}"
     room.office.says("no witness since")
     begun = time.monotonic()
     desk.talk(*(f"return 1 1 {number} 530 -> stored {number}" for number in range(2, 12)))
-    that(f"at once: {time.monotonic() - begun}", time.monotonic() - begun < 40)  # ten times five seconds would be more
+    assert time.monotonic() - begun < 40, f"at once: {time.monotonic() - begun}"  # ten times five seconds would be more
 
 
 @pytest.mark.xdist_group("times")
@@ -119,10 +119,10 @@ def test_slow_witness(new_room):
         for desk in desks:
             desk.write(f"show {municipality} 1\n")
         for desk in desks:
-            same(f"the answer about {municipality}", "none", desk.answer())
-    that(f"in all some five seconds: {time.monotonic() - begun}", time.monotonic() - begun < 60)  # 24 times five would be more
+            assert desk.answer() == "none", f"the answer about {municipality}"
+    assert time.monotonic() - begun < 60, f"in all some five seconds: {time.monotonic() - begun}"  # 24 times five would be more
     room.office.says("no witness since")
-    that(f"the folder says it: {room.said_of_it()}", room.said_of_it().startswith("no witness since"))
+    assert room.said_of_it().startswith("no witness since"), f"the folder says it: {room.said_of_it()}"
     for desk in desks:
         desk.says("no witness since")
     room.has_all()
@@ -144,7 +144,7 @@ def test_answer_that_took_long():
         room.is_slow(4)
         begun = time.monotonic()
         desk.talk("return 1 1 1 525 -> stored 1")
-        that(f"it took its time: {time.monotonic() - begun}", time.monotonic() - begun > 7)
+        assert time.monotonic() - begun > 7, f"it took its time: {time.monotonic() - begun}"
         desk.says("waiting for the witness since")
         room.is_slow(0)
         room.check()
@@ -156,15 +156,15 @@ def test_slow_start(new_room):
     new_room.command.write_text(new_room.command.read_text().replace("exec", "sleep 3\nexec"))
     new_room.measures("MEETING").start()
     lines = new_room.office.error
-    that(f"it was there first: {lines}", "the witness has been connected since" in lines[0] and "desks can send lines" in lines[-1])
+    assert "the witness has been connected since" in lines[0] and "desks can send lines" in lines[-1], f"it was there first: {lines}"
     new_room.has_all()
     new_room.signal(signal.SIGSTOP)
     desk = new_room.desk(1)
     new_room.note(desk, "return 1 1 1 525")
     stays("no answer is shown", lambda: not desk.out, 2)
     new_room.signal(signal.SIGCONT)
-    same("the answer", "stored 1", desk.answer())
-    that(f"it was there all the time: {new_room.office.said()}", "no witness" not in new_room.office.said())
+    assert desk.answer() == "stored 1", "the answer"
+    assert "no witness" not in new_room.office.said(), f"it was there all the time: {new_room.office.said()}"
     new_room.stop()
 
 
@@ -177,10 +177,10 @@ def test_start_waits_for_it():
         desk.write("return 1 1 1 525\n")
         room.office.says("waiting for the witness since")
         stays("no desk is let in", lambda: not desk.is_let_in() and not room.serves(), 2)
-        same("the end of an office that waits", 0, room.stop())
+        assert room.stop() == 0, "the end of an office that waits"
         room.start(is_awaited=False)
         room.away.unlink()
-        same("the answer", "stored 1", desk.answer())
+        assert desk.answer() == "stored 1", "the answer"
         room.check()
 
 
@@ -192,7 +192,7 @@ def test_full_volume(room):
     room.away.touch()
     desk.talk("return 1 1 2 530 -> stored 2")
     room.office.says("no witness since", f"zhcount-witness: {room.copy}")
-    that("it has what it had", last_sum(room.copy) in [it.sum for it in room.events()[:-2]])
+    assert last_sum(room.copy) in [it.sum for it in room.events()[:-2]], "it has what it had"
     check_chain(room.copy)
     room.away.unlink()
     room.has_all()
@@ -210,10 +210,10 @@ def test_no_such_command(new_room, words, why):
     """where the command can't be started, or says something else, the office goes on, and says why; one without words is refused"""
     new_room.options = ["--witness", words]
     new_room.start()
-    same("the answer", ["stored 1"], new_room.ask(1, "return 1 1 1 525").out)
+    assert new_room.ask(1, "return 1 1 1 525").out == ["stored 1"], "the answer"
     said = new_room.office.error
     until(lambda: f"it says why, {why}: {said}", lambda: any("no witness" in it and why in it for it in said))
-    same("the end", 0, new_room.stop())
+    assert new_room.stop() == 0, "the end"
     for nothing in ("", " ", "ssh 'other"):
         new_room.zhcount_office("--witness", nothing, new_room.setup, new_room.disk, new_room.folder, status=2)
 
@@ -228,7 +228,7 @@ def another_device():
 
 def test_machine_is_lost():
     """whatever a desk was shown is held by the disk made anew from the witness on another device, whenever the office's was lost"""
-    that("answers were shown", sum(night_that_is_lost(seed, device=another_device()) for seed in range(4)) > 20)
+    assert sum(night_that_is_lost(seed, device=another_device()) for seed in range(4)) > 20, "answers were shown"
 
 
 def test_either_is_lost():

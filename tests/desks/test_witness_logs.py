@@ -8,7 +8,7 @@ import pytest
 
 from logs import Written, events
 from nights import Night
-from processes import same, stays, that, until
+from processes import stays, until
 from watch import WatchedRoom
 from witnessed import Witnessed
 
@@ -34,8 +34,8 @@ def test_another_log_at_the_start(room):
     room.stop()
     other, own = other_log(room), room.events()
     room.refuses("the witness's log differs from that of")
-    same("the other's log", other, events(room.copy))
-    same("the own one has nothing new", own, room.events())
+    assert events(room.copy) == other, "the other's log"
+    assert room.events() == own, "the own one has nothing new"
 
 
 @pytest.mark.parametrize("was_there", [False, True])
@@ -54,8 +54,8 @@ def test_another_log_in_the_night(new_room, was_there):
     room.away.unlink()
     room.office.says("still no witness: the witness's log differs")
     desk.talk("return 1 1 2 530 -> stored 2")
-    same("the other's log", other, events(room.copy))
-    same("the end", 0, room.stop())
+    assert events(room.copy) == other, "the other's log"
+    assert room.stop() == 0, "the end"
 
 
 @pytest.mark.parametrize("is_start", [True, False], ids=["at the start", "in the night"])
@@ -68,7 +68,7 @@ def test_longer_log(room, is_start):
     folder = shutil.copytree(room.folder, room.path / "kept", ignore=shutil.ignore_patterns("desk", "now*"))
     disk = shutil.copyfile(room.disk, room.path / "kept.disk")
     room.start()
-    same("the answer", ["stored 2"], room.ask(1, "return 1 1 2 530").out)
+    assert room.ask(1, "return 1 1 2 530").out == ["stored 2"], "the answer"
     room.has_all()
     room.stop()
     until("the witness has ended", lambda: not room.witness())
@@ -79,8 +79,8 @@ def test_longer_log(room, is_start):
     before = events(room.copy)
     if is_start:
         room.refuses(f"the first {len(room.events())} of them: if the count went on there, make the disk from that folder by --rebuild")
-        same("what the disk made of it holds", "municipality,list,number,votes\n1,1,2,530\n",
-             room.zhcount("export", disk=room.rebuilt_from_witness()))
+        export = room.zhcount("export", disk=room.rebuilt_from_witness())
+        assert export == "municipality,list,number,votes\n1,1,2,530\n", "what the disk made of it holds"
     else:
         room.away.touch()
         room.start()
@@ -88,8 +88,8 @@ def test_longer_log(room, is_start):
         room.away.unlink()
         room.office.says("still no witness: the witness's log differs from that of")
         room.desk(1).talk("return 1 1 2 531 -> stored 2")
-        same("the end", 0, room.stop())
-    same("the witness's log", before, events(room.copy))
+        assert room.stop() == 0, "the end"
+    assert events(room.copy) == before, "the witness's log"
 
 
 # What is on the device
@@ -114,7 +114,7 @@ def test_nothing_is_shown_that_it_has_not_written():
         until("it is about to write", lambda: stopped)
         stays("no answer is shown", lambda: len(desk.out) == 1, 2)
         os.kill(stopped[0], signal.SIGCONT)
-        same("the answer", "stored 1", desk.answer())
+        assert desk.answer() == "stored 1", "the answer"
         room.stop()
 
 
@@ -136,7 +136,7 @@ def test_in_pieces():
         room.start()
         room.has_all()
         sizes = [len(it) + 1 for it in came.read_bytes().split(b"\n")]
-        that(f"messages: {sizes}", sum(sizes) > 300_000 and 20_000 < max(sizes) <= 65536)
+        assert sum(sizes) > 300_000 and 20_000 < max(sizes) <= 65536, f"messages: {sizes}"
         room.stop()
 
 
@@ -153,4 +153,4 @@ def test_progress_is_life():
             room.stop()
         if "no witness" not in said:
             break
-    that(f"it is there: {said}", "no witness" not in said and "the witness has been connected" in said)
+    assert "no witness" not in said and "the witness has been connected" in said, f"it is there: {said}"

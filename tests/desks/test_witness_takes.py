@@ -7,7 +7,7 @@ import signal
 import threading
 
 from logs import Written, events
-from processes import Process, same, that, until
+from processes import Process, until
 from witnessed import Witnessed
 
 ROOM = Witnessed
@@ -26,16 +26,16 @@ def test_waits_for_the_one_before(new_room):
     speaking = threading.Thread(target=speak, daemon=True)
     speaking.start()
     said = new_room.zhcount_office("--rebuild", new_room.copy, new_room.other / "new", status=1)
-    that(f"a rebuild meanwhile: {said}", f"another office, witness or replay has {new_room.copy}" in said)
+    assert f"another office, witness or replay has {new_room.copy}" in said, f"a rebuild meanwhile: {said}"
     new_room.start(is_awaited=False)
     new_room.office.says(f"the witness waits for zhcount-witness, process {first.process.pid} of ")
     is_left.set()
     speaking.join()
     new_room.await_start()
     first.ends_with(1, "the first")
-    same("what it says", f"zhcount-witness: {new_room.copy}: nothing has come for 20 seconds", first.said())
+    assert first.said() == f"zhcount-witness: {new_room.copy}: nothing has come for 20 seconds", "what it says"
     new_room.office.says("the witness has been connected since")
-    same("the answer", ["stored 1"], new_room.ask(1, "return 1 1 1 525").out)
+    assert new_room.ask(1, "return 1 1 1 525").out == ["stored 1"], "the answer"
     new_room.check()
 
 
@@ -49,7 +49,7 @@ def test_office_at_the_witness(room):
     shutil.copyfile(room.disk, disk)
     second = room.process(Process, room.script("zhcount-office", room.setup, disk, room.copy))
     second.says(f"process {pid} of ")
-    that("it waits", not second.has_ended())
+    assert not second.has_ended(), "it waits"
     room.away.touch()
     room.stop(signal.SIGKILL)
     second.says("desks can send lines")
@@ -69,8 +69,8 @@ def test_refused_folder(new_room):
                          (new_room.other / "no/copy", "No such file or directory"),
                          (older, f"{older} has the transcripts of an older zhcount")]:
         refused = new_room.process(Process, new_room.script("zhcount-witness", folder))
-        same(f"the status: {refused.said()}", 1, refused.end('{"number": 0, "sum": ""}\n'))
-        that(f"it says so: {refused.said()}", re.match(rf"zhcount-witness: {folder}: .*{re.escape(said)}", refused.said()))
+        assert refused.end('{"number": 0, "sum": ""}\n') == 1, f"the status: {refused.said()}"
+        assert re.match(rf"zhcount-witness: {folder}: .*{re.escape(said)}", refused.said()), f"it says so: {refused.said()}"
 
 
 def spoken(room, *messages):
@@ -96,20 +96,20 @@ def test_what_follows(new_room):
     first, second, third = (log.add("setup", "x"), log.add_facts("start", commands=0, export="", version="-", program=""),
                             log.add("line", "show 1 1", 1, 1))
     taken = spoken(new_room, greeting, listed(first), listed())
-    same(f"the end: {taken.said()}", 0, taken.status)
-    same("what it said", [0, 1, 1], [json.loads(it)["number"] for it in taken.out])
+    assert taken.status == 0, f"the end: {taken.said()}"
+    assert [json.loads(it)["number"] for it in taken.out] == [0, 1, 1], "what it said"
     changed = dataclasses.replace(second, text="y")
     for messages, said in [*(([listed(it)], "does not follow") for it in (changed, third, first)),
                            ([listed(second, changed)], "does not follow"), (in_two(second, changed), "does not follow"),
                            (["x"], "no message"), (["[]"], "no message"), (["[" * 10000], "no message"), (["{}"], NO_FORM),
                            *(([{"events": it, "more": False}], NO_FORM) for it in ("x", 5, "[[1, 2]]", "[5]"))]:
         refused = spoken(new_room, greeting, *messages)
-        same(f"the status after {messages}: {refused.said()}", 1, refused.status)
-        that(f"it says so, {messages}: {refused.said()}", said in refused.said() and refused.said().count("\n") == 0)
-        same("what it has", [first], events(new_room.copy))
+        assert refused.status == 1, f"the status after {messages}: {refused.said()}"
+        assert said in refused.said() and refused.said().count("\n") == 0, f"it says so, {messages}: {refused.said()}"
+        assert events(new_room.copy) == [first], "what it has"
     taken = spoken(new_room, greeting, *in_two(second, third))
-    same(f"the end: {taken.said()}", 0, taken.status)
-    same("what it has", [first, second, third], events(new_room.copy))
+    assert taken.status == 0, f"the end: {taken.said()}"
+    assert events(new_room.copy) == [first, second, third], "what it has"
 
 
 def test_checkpoints(new_room):
@@ -118,6 +118,6 @@ def test_checkpoints(new_room):
     much = listed(Written(new_room.copy).add("setup", "x" * 4_150_000))
     witness.write("".join(f"{json.dumps(it)}\n" for it in ({"number": 0, "sum": ""}, much)))
     until("it is taken", lambda: len(witness.out) == 2)
-    that("night.db has none of it", (new_room.copy / "night.db").stat().st_size < 1 << 20)
-    same(f"the end: {witness.said()}", 0, witness.end())
-    that("and then all of it", (new_room.copy / "night.db").stat().st_size > 4 << 20 - 1)
+    assert (new_room.copy / "night.db").stat().st_size < 1 << 20, "night.db has none of it"
+    assert witness.end() == 0, f"the end: {witness.said()}"
+    assert (new_room.copy / "night.db").stat().st_size > 4 << 20 - 1, "and then all of it"

@@ -2,7 +2,7 @@
 import signal
 
 from people import Person
-from room import same, that, until
+from room import until
 
 # The lines of the night: the desk, the line, and its answer. Between two parts the office is told to end, and started again.
 NIGHT = [[(1, "open", "held 0"),
@@ -34,14 +34,14 @@ class Night:
             for desk, line, wanted in lines:
                 number += 1
                 if number > self.done:
-                    same(f"the answer to {line}", wanted, self.people[desk].type(line))
+                    assert self.people[desk].type(line) == wanted, f"the answer to {line}"
                     self.done = number
             if number >= self.done and part + 1 < len(NIGHT):
                 self.end_office()
                 self.start()
         self.end_office()
         for it in [it.desk for it in self.people.values() if it.desk]:
-            same("nothing else is shown", [], it.out[it.taken:])
+            assert it.out[it.taken:] == [], "nothing else is shown"
             it.process.stdin.close()
 
     def typed(self):
@@ -65,8 +65,8 @@ class Night:
         if self.room.office.has_ended():
             status = self.room.office.wait()
             self.ended.append(status)
-            that(f"the office ends with {status}: {self.room.office.said()}", status in self.may_end)
-            that(f"without a traceback: {self.room.office.said()}", "Traceback" not in self.room.office.said())
+            assert status in self.may_end, f"the office ends with {status}: {self.room.office.said()}"
+            assert "Traceback" not in self.room.office.said(), f"without a traceback: {self.room.office.said()}"
             self.start()
 
     def end_office(self):
@@ -75,7 +75,7 @@ class Night:
             until(lambda: f"an office: {self.room.office.said()}", lambda: self.look_after_office() or self.room.serves())
             self.is_ending = True
             if not self.room.stop():
-                that(f"every line is answered: {self.room.office.said()}", "every line is answered" in self.room.office.said())
+                assert "every line is answered" in self.room.office.said(), f"every line is answered: {self.room.office.said()}"
                 return
             self.look_after_office()
         raise AssertionError(f"the office can't be told to end: {self.room.office.said()}")
@@ -88,7 +88,7 @@ class Night:
         room.compare(())
         for it in self.people.values():
             it.check()
-        same("the export", EXPORT, room.zhcount("export"))
+        assert room.zhcount("export") == EXPORT, "the export"
         facts = room.events()[-1].facts()
-        same("the last event", (4, "told to"), (facts["commands"], facts["reason"]))
-        same("the export of the disk made anew", EXPORT, room.rebuilt())
+        assert (facts["commands"], facts["reason"]) == (4, "told to"), "the last event"
+        assert room.rebuilt() == EXPORT, "the export of the disk made anew"

@@ -15,7 +15,7 @@ from canton import Canton, Chance
 from counting import rows_of
 from logs import events
 from office import Office
-from processes import HAS_ENDED, same, that, until
+from processes import HAS_ENDED, until
 from quiet import patient_scripts, quiet_scripts
 from room import SCRIPTS, Room
 
@@ -118,16 +118,16 @@ class Witnessed(Room):
         disk = self.other / f"rebuilt-{time.monotonic_ns()}"
         until("the witness has ended", lambda: not self.witness())
         self.zhcount_office("--rebuild", self.copy, disk)
-        same("its set-up", self.setup.read_bytes(), (self.copy / "setup.toml").read_bytes())
+        assert (self.copy / "setup.toml").read_bytes() == self.setup.read_bytes(), "its set-up"
         return disk
 
     def check(self, sent=()):
         """As of each room; and the witness has all that the office has, unless that says that it was away."""
         said = super().check(sent)
         own, there = events(self.folder), events(self.copy)
-        same("what the witness has", own[:len(there)], there)
+        assert there == own[:len(there)], "what the witness has"
         is_away = not self.said_of_it().startswith("the witness has been connected")
-        that(f"it has all: {self.said_of_it()}", len(own) == len(there) or is_away)
+        assert len(own) == len(there) or is_away, f"it has all: {self.said_of_it()}"
         return said
 
 
@@ -200,7 +200,7 @@ class Entering(threading.Thread):
             is_own = not re.match("show|last|sheet", line)
             wanted = office.answer(f"{self.number} {line}")[2:].split(" ")[0] if is_own else ""
             if wanted and place < len(self.desk.out):
-                same(f"desk {self.number}'s answer to {line}", wanted, self.desk.out[place].split(" ")[0])
+                assert self.desk.out[place].split(" ")[0] == wanted, f"desk {self.number}'s answer to {line}"
         return office.held, office.closed
 
     def check(self, held, closed):
@@ -208,12 +208,12 @@ class Entering(threading.Thread):
         answers = dict(zip(self.sent, self.desk.out))
         found = {it: entry for it, entry in held.items() if it[0] in self.own}, {it for it in closed if it in self.own}
         wanted = [self.after(self.shown()), self.after(self.sent)]
-        that(f"desk {self.number} was shown {self.desk.out[-1:]} to {self.shown()[-1:]}: {found}, wanted {wanted}", found in wanted)
+        assert found in wanted, f"desk {self.number} was shown {self.desk.out[-1:]} to {self.shown()[-1:]}: {found}, wanted {wanted}"
         for line, answer in answers.items():
             word, *numbers = line.split(" ")
             if word == "show" and answer.startswith("shows "):
                 there = held.get((int(numbers[0]), int(numbers[1])), (0, None))[0]
-                that(f"desk {self.number} was shown {answer} to {line}, and there is {there}", there >= int(answer.split(" ")[1]))
+                assert there >= int(answer.split(" ")[1]), f"desk {self.number} was shown {answer} to {line}, and there is {there}"
 
 
 def enter(room, canton, seed):
