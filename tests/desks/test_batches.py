@@ -12,7 +12,7 @@ def test_batch_is_left_open(room):
     room.restart()
     desk = room.ask(5, "drop")
     desk.says(text)
-    assert desk.out == ["dropped 1"], "the answer"
+    assert desk.out == ["dropped 1"]
     room.restart()
     desk = room.ask(5, "commit")
     assert desk.out == ["refused nobatch"], "a batch that was dropped"

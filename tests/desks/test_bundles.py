@@ -89,7 +89,7 @@ def test_child_that_fails(new_room):
         new_room.start()
         new_room.shows(number - 1)
         new_room.held.touch()
-        assert new_room.ask(2, f"return 1 1 {number - 8} 525").out == [f"stored {number}"], "the answer"
+        assert new_room.ask(2, f"return 1 1 {number - 8} 525").out == [f"stored {number}"]
         new_room.office.says(f"zhcount-office: `now` could not be renewed: {text}")
         new_room.held.unlink()
         new_room.shows(number)

@@ -32,7 +32,7 @@ def test_another_log(room):
     assert room.ask(3, "return 3 1 1 555").out == ["stored 1"], "another connection"
     desk.write("return 3 3 1 777\n")
     desk.kill(signal.SIGCONT)
-    assert desk.wait() == 1, "its end"
+    assert desk.wait() == 1
     assert desk.out == ["stored 1"], "what it shows"
     desk.says("desk 3: the office has another log, or other lines of this desk, by now: connect again")
     assert room.ask(3, "show 3 3").out == ["none"], "connected again"
@@ -45,7 +45,7 @@ def test_another_log_while_it_waits(room):
     put_aside(room)
     room.start()
     for desk in (waits, is_idle):
-        assert desk.wait() == 1, "its end"
+        assert desk.wait() == 1
         desk.says("the office has another log, or ")
     waits.says("without an answer: return 3 1 1 90")
     assert room.ask(3, "show 3 1").out == ["none"], "connected again"
@@ -61,7 +61,7 @@ def test_older_copy_of_the_log(room):
     (room.folder / "night.db").write_bytes(copied)
     (room.folder / "night.db-wal").unlink()
     room.start()
-    assert desk.wait() == 1, "its end"
+    assert desk.wait() == 1
     desk.says("other lines of this desk, by now: connect again", "without an answer: return 3 1 1 90")
     assert room.ask(3, "show 3 1").out == ["none"], "it was not sent"
 
@@ -74,7 +74,7 @@ def test_lines_of_another_connection(room):
     room.restart()
     assert room.ask(7, "return 1 1 2 530").out == ["stored 2"], "another connection"
     first.kill(signal.SIGCONT)
-    assert first.wait() == 1, "its end"
+    assert first.wait() == 1
     first.says("other lines of this desk, by now: connect again")
     room.check({7: ["return 1 1 1 525", "return 1 1 2 530"]})
 

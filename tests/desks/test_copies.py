@@ -45,7 +45,7 @@ def test_every_ten_seconds():
         desk.write("".join(f"{it}\n" for it in RETURNS[:2]))
         room.start()
         until("the next", lambda: names_of_now(room) == ["now", "now-2"])
-        assert [desk.answer(), desk.answer()] == ["stored 1", "stored 2"], "the answers"
+        assert [desk.answer(), desk.answer()] == ["stored 1", "stored 2"]
         first, second, *_ = map(float, times.read_text().split())
         assert 10 <= second - first < 60, f"after {second - first:.1f} seconds"
         stays("nothing is copied where nothing has changed", lambda: names_of_now(room) == ["now", "now-2"])
@@ -106,7 +106,7 @@ def test_copies_and_a_witness():
         room.note(desk, RETURNS[1])
         stays("nothing that waits is copied", lambda: not room.child() and names_of_now(room) == ["now", "now-1"], 3)
         room.signal(signal.SIGCONT)
-        assert desk.answer() == "stored 2", "the answer"
+        assert desk.answer() == "stored 2"
         room.shows(2)
         room.stop()
 
@@ -122,7 +122,7 @@ def test_copy_of_other_commands(new_room):
 def test_copy_of_another_disk(new_room):
     """another disk at the disk's path is not copied: the office stops"""
     new_room.start_held()
-    assert new_room.ask(1, RETURNS[0]).out == ["stored 1"], "the answer"
+    assert new_room.ask(1, RETURNS[0]).out == ["stored 1"]
     os.replace(new_room.other_disk(RETURNS[1]), new_room.disk)
     new_room.goes_on()
     new_room.ends(3, "is no longer the file")
@@ -159,7 +159,7 @@ def test_no_room(new_room):
     office = new_room.start()
     new_room.shows(0)
     resource.prlimit(office.process.pid, resource.RLIMIT_FSIZE, (500_000, resource.RLIM_INFINITY))
-    assert new_room.ask(1, *RETURNS).out == [f"stored {it}" for it in range(1, 10)], "the answers"
+    assert new_room.ask(1, *RETURNS).out == [f"stored {it}" for it in range(1, 10)]
     office.says("could not be renewed: [Errno 27] File too large")
     (new_room.folder / "sheet-9.new").mkdir()
     assert new_room.ask(2, "sheet").out[0] == "2 sheet provisional 9", "the sheet"
@@ -167,13 +167,13 @@ def test_no_room(new_room):
     new_room.shows(0)
     resource.prlimit(office.process.pid, resource.RLIMIT_FSIZE, (resource.RLIM_INFINITY, resource.RLIM_INFINITY))
     new_room.shows(9)
-    assert new_room.stop() == 0, "the end"
+    assert new_room.stop() == 0
 
 
 def test_killed_office():
     """a child whose office is killed shows nothing, and the next start removes what it left"""
     with running(QuickRoom(every=NEVER)) as room:
-        assert room.ask(1, RETURNS[0]).out == ["stored 1"], "the answer"
+        assert room.ask(1, RETURNS[0]).out == ["stored 1"]
         room.stop()
         room.start_held()
         ends_without_child(room, signal.SIGKILL)
@@ -206,7 +206,7 @@ def test_told_twice():
         until("the last copy has a child", lambda: room.child() not in (0, first))
         stays("it waits", lambda: not room.office.has_ended())
         ends_without_child(room, signal.SIGTERM)
-        assert (room.office.wait(), names_of_now(room)) == (0, ["now-0"]), "the end"
+        assert (room.office.wait(), names_of_now(room)) == (0, ["now-0"])
 
 
 class StopInNow(Stop):

@@ -59,7 +59,7 @@ def test_endless_line(room):
     for _ in range(24):
         desk.write("x" * 2**20)
     desk.write("\n")
-    assert desk.answer() == "refused syntax", "the answer"
+    assert desk.answer() == "refused syntax"
     assert memory() < before + 8000, f"the memory: {before} kB, then {memory()} kB"
     desk.talk("show 1 1 -> none")
 
@@ -124,7 +124,7 @@ def test_run_is_killed(room):
     os.kill(room.unanswered(desk, "return 1 1 2 530"), signal.SIGKILL)
     room.ends(1, "unanswered: desk 1: return 1 1 2 530: the next start looks what became of it")
     room.start()
-    assert desk.answer() == "stored 2", "the answer"
+    assert desk.answer() == "stored 2"
     room.check({1: ["return 1 1 1 525", "return 1 1 2 530"]})
 
 
@@ -190,7 +190,7 @@ def test_stopped_office(hasty_room):
         desk.says(f"no answer yet to return {number - 1} 1 1 90: waiting")
     time.sleep(2.5)
     room.office.kill(signal.SIGCONT)
-    assert {it.answer() for it in desks.values()} == {"stored 1", "stored 2"}, "the answers"
+    assert {it.answer() for it in desks.values()} == {"stored 1", "stored 2"}
     for desk in desks.values():
         assert desk.said().count("no answer yet to return") == 1, "how often it was said"
         assert "has ended" not in desk.said(), f"nothing else is: {desk.said()}"
@@ -205,7 +205,7 @@ def test_waits_for_an_office(hasty_room):
     desk.write("return 1 1 1 525\n")
     desk.says(f"no office is running in {room.folder} yet: waiting")
     room.start()
-    assert desk.answer() == "stored 1", "the answer"
+    assert desk.answer() == "stored 1"
     other = room.desk(3).talk("return 3 1 1 90 -> stored 2")
     room.stop()
     room.folder.rename(f"{room.folder}.aside")
@@ -219,7 +219,7 @@ def test_waits_for_an_office(hasty_room):
     os.rename(f"{room.folder}.aside", room.folder)
     room.start()
     desk.says("the office is back, start 2")
-    assert desk.answer() == "stored 3", "the answer"
+    assert desk.answer() == "stored 3"
     assert desk.end() == 0, "the end of the desk"
     other = room.ask(3, "return 3 2 1 60")
     other.says("before: return 3 1 1 90: stored 2")

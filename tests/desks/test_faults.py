@@ -34,7 +34,7 @@ def test_another_disk_while_it_runs(room, change):
 @pytest.mark.parametrize("lines, put", [(["return 3 1 1 90"], os.replace), ([], shutil.copyfile)], ids=["in its place", "into the file"])
 def test_another_disk_at_the_end(room, lines, put):
     """an office that is told to end looks at the disk, too: no other export is noted, and no 'every line is answered'"""
-    assert room.ask(1, FIRST).out == ["stored 1"], "the answer"
+    assert room.ask(1, FIRST).out == ["stored 1"]
     put(room.other_disk(*lines), room.disk)
     assert room.stop() == 3, f"the status: {room.office.said()}"
     assert "every line is answered" not in room.office.said(), f"not said: {room.office.said()}"
@@ -69,7 +69,7 @@ def test_busy_disk_at_the_end(new_room):
     is_asked = f"[ $1 != run ] && [ -e '{flag}' ] && [[ \"$*\" = *'{new_room.disk}'* ]]"
     new_room.stands_in(f"{is_asked} && {{ echo 'zhcount: disk busy' >&2; exit 1; }}")
     new_room.start()
-    assert new_room.ask(1, FIRST).out == ["stored 1"], "the answer"
+    assert new_room.ask(1, FIRST).out == ["stored 1"]
     flag.touch()
     assert new_room.stop() == 0, f"the status: {new_room.office.said()}"
     new_room.office.says("every line is answered")
@@ -94,7 +94,7 @@ def test_no_answers(room, edit, line, status, text):
     assert room.of_desk(1)[-1] == (line, None), "it stays open"
     room.environment["ZHCOUNT"] = str(PROGRAM)
     room.start()
-    assert re.match("stored 4|1 sheet provisional 3\nhouse(.|\n)*\nend$", desk.answer(line)), "the answer"
+    assert re.match("stored 4|1 sheet provisional 3\nhouse(.|\n)*\nend$", desk.answer(line))
     room.check()
 
 
@@ -172,14 +172,14 @@ def test_full_volume_of_the_disk(new_room):
     desk.write(f"{SECOND}\n")
     new_room.ends(3, "the disk has failed: refused device. Copy it before anything else")
     new_room.start()
-    assert desk.answer() == "stored 2", "the answer"
+    assert desk.answer() == "stored 2"
     new_room.check({1: [FIRST, SECOND]})
 
 
 def test_folder_fails_at_the_end(new_room):
     """an office that can't note its end says so, with status 3 and without a traceback"""
     office = new_room.start()
-    assert new_room.ask(1, FIRST).out == ["stored 1"], "the answer"
+    assert new_room.ask(1, FIRST).out == ["stored 1"]
     resource.prlimit(office.process.pid, resource.RLIMIT_FSIZE, (1000, resource.RLIM_INFINITY))
     assert new_room.stop() == 3, f"the status: {office.said()}"
     assert "night.db could not be written" in office.said() and "Traceback" not in office.said(), f"it says why: {office.said()}"
@@ -196,7 +196,7 @@ def test_folder_is_put_aside(room):
     assert desk.out == ["stored 1"], "what the desk was shown"
     (room.path / "aside").rename(room.folder)
     room.start()
-    assert desk.answer() == "stored 2", "the answer"
+    assert desk.answer() == "stored 2"
     room.check({1: [FIRST, SECOND]})
 
 

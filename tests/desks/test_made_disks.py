@@ -82,7 +82,7 @@ def test_beside_an_office(new_room):
     """while an office runs, replay, rebuild and another office say who has the folder, and it goes on; after its end they work, and it can
     start again"""
     new_room.start()
-    assert new_room.ask(1, "return 1 1 1 525").out == ["stored 1"], "the answer"
+    assert new_room.ask(1, "return 1 1 1 525").out == ["stored 1"]
     for status, *words in ((1, "--replay", new_room.folder), (1, "--rebuild", new_room.folder, new_room.path / "new.disk"),
                            (3, new_room.setup, new_room.disk, new_room.folder)):
         said = new_room.zhcount_office(*words, status=status)

@@ -51,7 +51,7 @@ def test_names(named_room):
              "reopen 1": ("refused notclosed 1",),
              "drop": ("refused nobatch",)}
     desk = named_room.ask(1, *lines)
-    assert desk.out == [it[0] for it in lines.values()], "the answers"
+    assert desk.out == [it[0] for it in lines.values()]
     says(desk, *(it[1] for it in lines.values() if it[1:]))
     named_room.check({1: list(lines)})
 
@@ -61,7 +61,7 @@ def test_closings(named_room):
     named_room.ask(1, *(f"return 1 {it} 1 5" for it in (1, 2, 3)))
     named_room.ask(2, *(f"return 1 {it} 1 5" for it in (1, 2, 3)))
     desk = named_room.ask(3, "close 1", "close 1", "return 1 1 2 6", "reopen 1")
-    assert desk.out == ["stored 4", "same", "refused closed", "stored 5"], "the answers"
+    assert desk.out == ["stored 4", "same", "refused closed", "stored 5"]
     says(desk, "Dübendorf: closed", "Dübendorf: closed", "Dübendorf: open again")
 
 
@@ -93,7 +93,7 @@ def test_answer_after_a_stop(room):
     warning = "municipality 3, W: 2 of 3 returns missing, 1 entered by one desk alone"
     room.stops_at(desk, "close 3").says(warning)
     room.start()
-    assert desk.answer() == "stored 2", "the answer"
+    assert desk.answer() == "stored 2"
     desk.end()
     assert [it for it in said(desk) if "office" not in it] == ["W, A: 90 votes, version 1", warning, warning, "W: closed"], "what is said"
 
@@ -106,7 +106,7 @@ def test_nobody_reads(room):
     given = "".join(f"{it}\n" for it in lines)
     ran = subprocess.run(room.script("zhcount-desk", "1", room.folder), input=given, stdout=subprocess.PIPE,
                          stderr=into, text=True, timeout=SECONDS)
-    assert ran.stdout.splitlines() == [f"stored {it}" for it in range(1, 201)], "the answers"
+    assert ran.stdout.splitlines() == [f"stored {it}" for it in range(1, 201)]
     os.close(into)
     found = os.read(out, 8192).decode()
     assert "N, A: 3 votes, version 3" in found and "version 200" not in found, f"some of it is there: {found}"
@@ -121,7 +121,7 @@ def test_close(room):
     room.ask(1, "return 3 1 1 90", "return 3 2 1 60", "return 1 1 1 525", "withdraw 3 3 1", "withdraw 3 3 1")
     room.ask(2, "return 3 1 1 90")
     desk = room.ask(3, "close 3", "close 2", "reopen 3")
-    assert desk.out == ["stored 5", "stored 6", "stored 7"], "the answers"
+    assert desk.out == ["stored 5", "stored 6", "stored 7"]
     says(desk, "municipality 3, W: 2 entered by one desk alone", "W: closed", "municipality 2, M: 3 of 3 returns missing", "M: closed",
          "W: open again")
     says(room.ask(4, "return 3 2 1 60", "withdraw 3 3 1", "close 3"), "W, B: 60 votes, version 1, entered by desk 1 too",
@@ -167,7 +167,7 @@ def test_many_municipalities():
         room.start()
         room.ask(1, *(f"return {it} 1 1 {it}" for it in range(1, 15) if it != 12))
         desk = room.ask(1, "final")
-        assert desk.out == ["refused notclosed 1"], "the answer"
+        assert desk.out == ["refused notclosed 1"]
         alone = [f"municipality {it}, N{it}: 1 entered by one desk alone" for it in range(1, 9)]
         says(desk, "municipality 12, N12: 1 of 1 returns missing", *alone, "5 more municipalities: `now` has them all")
 

@@ -55,7 +55,7 @@ def test_files_of_a_copy(room):
     """the files of `now` are those of the model after as many commands, and the group may read them"""
     compare(room, [])
     lines = [*RETURNS[:1], *RETURNS[3:4], "return 3 1 1 20001", "withdraw 1 2 1", "close 2"]
-    assert room.ask(1, *lines).out == [f"stored {it}" for it in range(1, 6)], "the answers"
+    assert room.ask(1, *lines).out == [f"stored {it}" for it in range(1, 6)]
     now = compare(room, lines, "1,1,1,525,1,N,A\n1,2,1,withdrawn,1,N,B\n2,1,1,240,1,M,A\n3,1,1,20001,1,W,A\n")
     assert "3,1,20001," in (now / "implausible").read_text(), "some are implausible"
     files = [it for it in now.iterdir() if it.is_file()]
@@ -76,7 +76,7 @@ def test_the_end():
         until("the first", lambda: link_of(room) == "now-0")
         room.ask(1, *RETURNS, "show 1 1", "sheet", "x,\"y\"")
         room.held.touch()  # the last child takes longer than an office that does not wait for it
-        assert room.stop() == 0, "the end"
+        assert room.stop() == 0
         compare(room, RETURNS)
         assert names_of_now(room) == ["now", "now-9"], "nothing else"
         last = (room.folder / "now/lines.csv").read_text().splitlines()[-1]
@@ -125,7 +125,7 @@ def test_a_hundred_thousand_lines():
     """a hundred thousand lines are all in lines.csv, and meanwhile desks are answered"""
     with LongNight() as night:
         night.start()
-        assert night.ask(1, RETURNS[0]).out == ["stored 1"], "the answer"
+        assert night.ask(1, RETURNS[0]).out == ["stored 1"]
         now = night.shows(1)
         assert (now / "lines.csv").read_text().count("\n") == 100_002, "the lines"
         night.desk(2).talk("show 1 1 -> shows 1 525")
@@ -178,12 +178,12 @@ def test_unconfirmed_after_a_stop(new_room):
     new_room.note(desk, RETURNS[0])
     until("it is stored", lambda: RETURNS[0].replace("return ", "").replace(" ", ",") in new_room.zhcount("export", disk=copied(new_room)))
     new_room.restart()
-    assert desk.answer() == "stored 1", "the answer"
+    assert desk.answer() == "stored 1"
     desk.talk("open -> held 0", "row 1 2 1 300 -> held 1", "commit -> stored 2", "open -> held 0", "row 1 3 1 175 -> held 1")
     new_room.note(desk, "commit")
     until("it is stored", lambda: "1,3,1,175" in new_room.zhcount("export", disk=copied(new_room)))
     new_room.restart()
-    assert desk.answer() == "stored 3", "the answer"
+    assert desk.answer() == "stored 3"
     shows_unconfirmed(new_room, 3, table_of(RETURNS[:3]))
     new_room.stop()
 

@@ -39,7 +39,7 @@ def start_after(room, before):
 
 def test_what_is_noted(room):
     """a start has the program's version and sum, and the commands and the export's sum of the disk; an end the reason, and those"""
-    assert room.ask(1, FIRST, "sh\\ow").out == ["stored 1", "refused syntax"], "the answers"
+    assert room.ask(1, FIRST, "sh\\ow").out == ["stored 1", "refused syntax"]
     room.stop()
     room.start()
     room.stop(signal.SIGKILL)
@@ -58,14 +58,14 @@ def test_what_is_noted(room):
         assert facts["program"] == hashlib.sha256(PROGRAM.read_bytes()).hexdigest(), "the program"
         assert (facts["commands"], facts["export"]) == (commands, exports[commands]), f"the disk at event {start + 1}"
     for end in (6, 9):
-        assert found[end].facts() == {"reason": "told to", "commands": 1, "export": exports[1]}, "the end"
+        assert found[end].facts() == {"reason": "told to", "commands": 1, "export": exports[1]}
     for it in found:
         assert re.fullmatch(r"\d{4}-\d\d-\d\dT\d\d:\d\d:\d\d\.\d{3}[+-]\d\d:\d\d", it.at), f"the time of {it}"
 
 
 def test_clean_end(room):
     """after a clean end the folder has the log alone, whole, for its owner; every line is answered"""
-    assert room.ask(1, FIRST).out == ["stored 1"], "the answer"
+    assert room.ask(1, FIRST).out == ["stored 1"]
     room.stop()
     room.office.says("stopped: told to", "every line is answered")
     assert room.modes() == {"night.db": "-rw-------"}, "what is there"
@@ -103,9 +103,9 @@ def test_told_to_end(room):
     room.office.kill(signal.SIGTERM)
     stays("it waits", lambda: not room.office.has_ended())
     os.kill(run_process, signal.SIGCONT)
-    assert room.office.wait() == 0, "the end"
+    assert room.office.wait() == 0
     assert "every line is answered" in room.office.said(), f"it waits for the answer: {room.office.said()}"
-    assert desks[1].answer() == "stored 1", "the answer"
+    assert desks[1].answer() == "stored 1"
     room.start()
     assert desks[2].answer() == "stored 2", "the answer of the next start"
     run_process = room.unanswered(desks[1], "close 1")
@@ -122,7 +122,7 @@ def test_told_again_at_the_end(new_room):
     """Ctrl-C, and again while the office looks at the disk for the last time, is no fault of the program: the status stays 0"""
     flag = new_room.path / "flag"
     new_room.start()
-    assert new_room.ask(1, FIRST).out == ["stored 1"], "the answer"
+    assert new_room.ask(1, FIRST).out == ["stored 1"]
     new_room.stop()
     waits = f"echo > '{flag}.seen'; while [ -e '{flag}' ]; do sleep 0.02; done"
     new_room.stands_in(f"[ $1 = status ] && [ -e '{flag}' ] && {{ trap 'exit 1' INT; {waits}; }}")  # bash alone would overhear some INT
@@ -142,7 +142,7 @@ def test_ignored_signal(new_room):
     """a signal that was ignored at the start, as by nohup, does not end the office"""
     start_after(new_room, "trap '' HUP")
     new_room.office.kill(signal.SIGHUP)
-    assert new_room.ask(1, FIRST).out == ["stored 1"], "the answer"
+    assert new_room.ask(1, FIRST).out == ["stored 1"]
     assert new_room.stop() == 0, "TERM ends it"
 
 

@@ -58,7 +58,7 @@ def test_used_disk(new_room):
     assert not events(new_room.folder, "start", "loaded"), "nothing is noted of a start"
     assert "the disk is taken with its 2 commands" in take(new_room), "it is said"
     new_room.start()
-    assert new_room.ask(1, "show 1 1", "return 1 2 1 300").out == ["shows 1 525", "stored 3"], "the answers"
+    assert new_room.ask(1, "show 1 1", "return 1 2 1 300").out == ["shows 1 525", "stored 3"]
     new_room.restart()
     new_room.check()
     assert new_room.rebuilt() == new_room.zhcount("export"), "the export is that of the disk made anew"
@@ -85,7 +85,7 @@ def test_run_beside_a_start(new_room):
     """what another program stores while the office starts is in what it compares: the copy is of the time when `run` has the disk"""
     flag, held = new_room.path / "flag", new_room.path / "held"
     new_room.start()
-    assert new_room.ask(1, "return 1 1 1 525").out == ["stored 1"], "the answer"
+    assert new_room.ask(1, "return 1 1 1 525").out == ["stored 1"]
     new_room.stop()
     # Just before the office's run opens the disk, one by hand stores a command.
     new_room.stands_in(f"""if [ $1 = run ] && mkdir '{flag}' 2> /dev/null; then
@@ -93,7 +93,7 @@ def test_run_beside_a_start(new_room):
     fi""")
     new_room.start().says("1 command came in by hand before this start")
     assert held.read_text() == "1 stored 2\n", "it was stored"
-    assert new_room.ask(1, "return 1 3 1 120").out == ["stored 3"], "the answer"
+    assert new_room.ask(1, "return 1 3 1 120").out == ["stored 3"]
     new_room.stop()
     assert new_room.rebuilt() == new_room.zhcount("export"), "the export is that of the disk made anew"
 
@@ -104,7 +104,7 @@ def test_load_beside_an_end(new_room):
     table.write_text("municipality,list,number,votes\n3,1,1,90\n")
     words = f"'{PROGRAM}' load --setup '{new_room.setup}' --disk '{new_room.disk}' --csv '{table}'"
     new_room.start()
-    assert new_room.ask(1, "return 1 1 1 525").out == ["stored 1"], "the answer"
+    assert new_room.ask(1, "return 1 1 1 525").out == ["stored 1"]
     # The load tries again and again, and so has the disk as soon as the office lets go of it.
     loader = new_room.process(type(new_room.office), ["bash", "-c", f"until {words} 2> /dev/null; do :; done"])
     assert new_room.stop() == 0, "the end"

@@ -81,7 +81,7 @@ def test_turns(room):
     for turn in (3, 1):
         assert at_socket(room, b'{"desk": 1}\n', line_of(turn, "close 1"))[1], f"turn {turn} is refused"
     got, _ = at_socket(room, b'{"desk": 1}\n', line_of(2, "show 1 1"), line_of(3, "show 1 2"), more_seconds=1)
-    assert [json.loads(it)["answer"] for it in got.split(b"\n")[1:-1]] == ["shows 1 525", "none"], "the answers"
+    assert [json.loads(it)["answer"] for it in got.split(b"\n")[1:-1]] == ["shows 1 525", "none"]
     assert [it for it, _ in room.of_desk(1)] == ["return 1 1 1 525", "show 1 1", "show 1 2"], "what is noted"
     room.check()
 

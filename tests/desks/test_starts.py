@@ -48,7 +48,7 @@ def test_line_after_a_load_by_hand(room, kind):
     desk = stopped(room, line, False)
     room.load("1,3,1,77", "3,3,1,50") if kind == "show" else room.load("1,3,1,77")
     room.start()
-    assert desk.answer(line) == wanted.replace("4", "5"), "the answer"
+    assert desk.answer(line) == wanted.replace("4", "5")
     room.office.says("1 command came in by hand before this start", f"desk 1: {line} is not on the disk: it is given again")
     assert desk.send("last 1 3") == "last 0", "who set it"
     if kind != "commit":
@@ -118,5 +118,5 @@ def test_no_answer_before_the_start(room):
     until("run is started", lambda: room.child("run"))
     assert not desk.is_let_in(), "nobody is let in"
     flag.unlink()
-    assert desk.answer() == "refused conflict", "the answer"
+    assert desk.answer() == "refused conflict"
     room.check()

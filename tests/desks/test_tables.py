@@ -71,7 +71,7 @@ def test_other_forms(room):
         is_in(room, 3, table, "same" if number else "stored 1")
     desk = started(room, 3, "", source="-")
     assert desk.end(TABLE) == 0, "the end"
-    assert desk.out == ["same"], "the answer"
+    assert desk.out == ["same"]
     assert room.noted() == LINES * 6, "what is sent"
 
 
@@ -127,7 +127,7 @@ def test_no_file(new_room):
     """a file that is not there, and one with many faults, of which the first twenty are said"""
     new_room.folder = pathlib.Path(os.devnull)
     desk = new_room.process(Desk, new_room.script("zhcount-desk", "3", new_room.folder, "--csv", new_room.path / "none"))
-    assert desk.wait() == 1, "the end"
+    assert desk.wait() == 1
     desk.says("No such file or directory")
     desk = is_refused(new_room, 3, NAMES + "1,1,1,x\n" * 30, "line 21: votes is 'x', which is no whole number",
                       "desk 3: faults in the table: 30; nothing was sent")
@@ -204,7 +204,7 @@ def test_interrupted(room):
     desk = started(room, 3, TABLE)
     until("the office has taken its first line", lambda: room.noted() == ["open"])
     desk.kill(signal.SIGINT)
-    assert desk.wait() == 1, "the end"
+    assert desk.wait() == 1
     desk.says("desk 3: told to end", "without an answer: open; the same command finishes the table")
     os.kill(run_process, signal.SIGCONT)
     is_in(room, 3, TABLE, "stored 1")
@@ -272,7 +272,7 @@ def test_stopped_as_it_is_refused(watched_room):
         is_refused(room, 1, TABLE, "desk 1: line 3: row 1 2 1 300: refused conflict (show 1 2: shows 1 301); nothing was entered",
                    out=["refused conflict"])
         assert room.ask(1, "commit", *PLACES).out == ["refused nobatch", "none", "shows 1 301", "none"], "there is nothing of it"
-    assert status == 1, "the end"
+    assert status == 1
     assert number > 9, f"calls: {number - 1}"
     room.check()
 

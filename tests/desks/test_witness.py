@@ -26,9 +26,9 @@ def test_mirrored(room):
     assert answers == ["stored 1", "held 0", "held 1", "stored 2"]
     room.has_all()
     room.restart()
-    assert room.ask(2, "return 3 1 1 90").out == ["stored 3"], "the answer"
+    assert room.ask(2, "return 3 1 1 90").out == ["stored 3"]
     room.has_all()
-    assert room.stop() == 0, "the end"
+    assert room.stop() == 0
     room.check()
     check_chain(room.copy)
     assert stat.filemode((room.copy / "night.db").stat().st_mode) == "-rw-------", "who may use it"
@@ -55,7 +55,7 @@ def test_goes_on_without(room):
     room.has_all()
     room.lose_witness()
     until("it is away", lambda: room.said_of_it().startswith("no witness since"))
-    assert room.stop() == 0, "the end"
+    assert room.stop() == 0
     assert (room.events()[-1].kind, room.events()[-1].facts()["reason"]) == ("ended", "told to"), "the last event"
     room.away.unlink()
     room.start()
@@ -73,17 +73,17 @@ def test_waits_for_it():
         desk.says("waiting for the witness since")
         assert room.said_of_it().startswith("waiting for the witness since"), "the folder says it"
         room.away.unlink()
-        assert desk.answer() == "stored 2", "the answer"
+        assert desk.answer() == "stored 2"
         room.lose_witness()
         until("it is away", lambda: room.said_of_it().startswith("waiting for the witness since"))
         room.note(desk, "return 1 1 3 540")
         until("it is on the disk", lambda: room.events()[-1].text == "stored 3")
-        assert room.stop() == 0, "the end"
+        assert room.stop() == 0
         room.office.says("unanswered: desk 1: return 1 1 3 540: the next start looks")
         assert desk.out == ["stored 1", "stored 2"], "what desk 1 was shown"
         room.away.unlink()
         room.start()
-        assert desk.answer() == "stored 3", "the answer"
+        assert desk.answer() == "stored 3"
         room.check()
 
 
@@ -96,7 +96,7 @@ def test_silent_witness(new_room):
     room.has_all()
     room.signal(signal.SIGSTOP)
     begun = time.monotonic()
-    assert desk.send("return 1 1 1 525") == "stored 1", "the answer"
+    assert desk.send("return 1 1 1 525") == "stored 1"
     assert 4 < time.monotonic() - begun < 40, f"after some five seconds: {time.monotonic() - begun}"
     room.office.says("no witness since")
     begun = time.monotonic()
@@ -163,7 +163,7 @@ def test_slow_start(new_room):
     new_room.note(desk, "return 1 1 1 525")
     stays("no answer is shown", lambda: not desk.out, 2)
     new_room.signal(signal.SIGCONT)
-    assert desk.answer() == "stored 1", "the answer"
+    assert desk.answer() == "stored 1"
     assert "no witness" not in new_room.office.said(), f"it was there all the time: {new_room.office.said()}"
     new_room.stop()
 
@@ -180,7 +180,7 @@ def test_start_waits_for_it():
         assert room.stop() == 0, "the end of an office that waits"
         room.start(is_awaited=False)
         room.away.unlink()
-        assert desk.answer() == "stored 1", "the answer"
+        assert desk.answer() == "stored 1"
         room.check()
 
 
@@ -210,10 +210,10 @@ def test_no_such_command(new_room, words, why):
     """where the command can't be started, or says something else, the office goes on, and says why; one without words is refused"""
     new_room.options = ["--witness", words]
     new_room.start()
-    assert new_room.ask(1, "return 1 1 1 525").out == ["stored 1"], "the answer"
+    assert new_room.ask(1, "return 1 1 1 525").out == ["stored 1"]
     said = new_room.office.error
     until(lambda: f"it says why, {why}: {said}", lambda: any("no witness" in it and why in it for it in said))
-    assert new_room.stop() == 0, "the end"
+    assert new_room.stop() == 0
     for nothing in ("", " ", "ssh 'other"):
         new_room.zhcount_office("--witness", nothing, new_room.setup, new_room.disk, new_room.folder, status=2)
 

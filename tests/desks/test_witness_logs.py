@@ -55,7 +55,7 @@ def test_another_log_in_the_night(new_room, was_there):
     room.office.says("still no witness: the witness's log differs")
     desk.talk("return 1 1 2 530 -> stored 2")
     assert events(room.copy) == other, "the other's log"
-    assert room.stop() == 0, "the end"
+    assert room.stop() == 0
 
 
 @pytest.mark.parametrize("is_start", [True, False], ids=["at the start", "in the night"])
@@ -68,7 +68,7 @@ def test_longer_log(room, is_start):
     folder = shutil.copytree(room.folder, room.path / "kept", ignore=shutil.ignore_patterns("desk", "now*"))
     disk = shutil.copyfile(room.disk, room.path / "kept.disk")
     room.start()
-    assert room.ask(1, "return 1 1 2 530").out == ["stored 2"], "the answer"
+    assert room.ask(1, "return 1 1 2 530").out == ["stored 2"]
     room.has_all()
     room.stop()
     until("the witness has ended", lambda: not room.witness())
@@ -88,7 +88,7 @@ def test_longer_log(room, is_start):
         room.away.unlink()
         room.office.says("still no witness: the witness's log differs from that of")
         room.desk(1).talk("return 1 1 2 531 -> stored 2")
-        assert room.stop() == 0, "the end"
+        assert room.stop() == 0
     assert events(room.copy) == before, "the witness's log"
 
 
@@ -114,7 +114,7 @@ def test_nothing_is_shown_that_it_has_not_written():
         until("it is about to write", lambda: stopped)
         stays("no answer is shown", lambda: len(desk.out) == 1, 2)
         os.kill(stopped[0], signal.SIGCONT)
-        assert desk.answer() == "stored 1", "the answer"
+        assert desk.answer() == "stored 1"
         room.stop()
 
 

@@ -35,7 +35,7 @@ def test_waits_for_the_one_before(new_room):
     first.ends_with(1, "the first")
     assert first.said() == f"zhcount-witness: {new_room.copy}: nothing has come for 20 seconds", "what it says"
     new_room.office.says("the witness has been connected since")
-    assert new_room.ask(1, "return 1 1 1 525").out == ["stored 1"], "the answer"
+    assert new_room.ask(1, "return 1 1 1 525").out == ["stored 1"]
     new_room.check()
 
 
