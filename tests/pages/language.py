@@ -1,64 +1,25 @@
-"""How the pages are written: their sentences, their words, and whether the German pages say what the English ones say."""
+"""How the pages are written: their lines, their words, and whether the German pages say what the English ones say."""
 import os
 import re
 from collections import Counter
 
-from pages.markdown import CODE, LIST_ITEM, blocks_of, links_of, part_of, prose_of, rows_of, sections_of
+from pages.markdown import CODE, blocks_of, links_of, part_of, prose_of, sections_of
 
 # Pages for people, who meet a word of the glossary only after a link to it.
 FOR_PEOPLE = ("README.md", "docs/BRIEF.md", "docs/NIGHT.md", "docs/OPERATING.md", "docs/CHECKING.md", "docs/FAQ.md",
               "docs/MANUAL.md", "docs/STATUTE.md", "docs/CONTRIBUTING.md", "docs/de/")
-DEFINITIONS, PROVED, GERMAN = "docs/DEFINITIONS.md", "docs/PROVED.md", "docs/de/"
-MOST_WORDS, MOST_SEMICOLONS, MOST_CHARACTERS = 40, 1, 80
-END = re.compile(r"(?<=[.?!]) +(?=[A-ZÄÖÜ\[*`(§])|(?<=[.?!]\)) +|(?<=[.?!]\*\*) +")
+DEFINITIONS, GERMAN, MOST_CHARACTERS = "docs/DEFINITIONS.md", "docs/de/", 80
 # Words of the glossary that pages use as everybody does, too.
 ORDINARY = {"moment", "history", "record", "accepted", "follow", "clean", "handed over"}
 NUMBER = re.compile(r"\d[\d,.'’]*\d|\d")
 
 
-def texts_of(page):
-    """Cells of tables but those that only cite, paragraphs, and items of lists, each with the number of its first line."""
-    prose, is_open = prose_of(page), False
-    found = [(number, cell) for section in sections_of(prose) for number, row in rows_of(section)
-             for title, cell in row.items() if title != "Carried by"]
-    for number, line in enumerate(prose.split("\n"), 1):
-        is_text = bool(line.strip()) and not line.startswith(("|", "#"))
-        if is_text and is_open and not LIST_ITEM.match(line):
-            found[-1] = found[-1][0], f"{found[-1][1]} {line.strip()}"
-        elif is_text:
-            found.append((number, LIST_ITEM.sub("", line, count=1)))
-        is_open = is_text
-    return found
-
-
-def hard_sentences(page):
-    """Sentences with too many words or semicolons; what stands in backticks is one word."""
-    for number, text in texts_of(page):
-        for sentence in END.split(CODE.sub("CODE", re.sub(r"\]\([^)]*\)", "]", text))):
-            words, semicolons = len(re.findall(r"[\w'’-]+", sentence)), sentence.count(";")
-            if words > MOST_WORDS or semicolons > MOST_SEMICOLONS:
-                yield number, f"{words} words, {semicolons} semicolons: {sentence.strip()}"
-
-
-def long_lines(page):
+def long_lines(tree):
     """Lines with too many characters that are no row of a table, no block and no link."""
-    for number, line in enumerate(prose_of(page).split("\n"), 1):
-        if len(line) > MOST_CHARACTERS and not line.startswith("|") and "](" not in line:
-            yield number, f"{len(line)} characters: {line}"
-
-
-def long_cells(tree):
-    """Cells of PROVED with too many words: a row says one thing, and names the clauses that carry it."""
-    for section in sections_of(tree.read(PROVED)):
-        for number, row in rows_of(section):
-            for cell in row.values():
-                if (words := len(cell.split())) > MOST_WORDS:
-                    yield f"{PROVED}:{number}: {words} words in a cell: {cell}"
-
-
-def on_each(find, tree):
-    """What this finds in the pages."""
-    return [f"{page}:{number}: {what}" for page in tree.pages for number, what in find(tree.read(page))]
+    for page in tree.pages:
+        for number, line in enumerate(prose_of(tree.read(page)).split("\n"), 1):
+            if len(line) > MOST_CHARACTERS and not line.startswith("|") and "](" not in line:
+                yield f"{page}:{number}: {len(line)} characters: {line}"
 
 
 def terms(tree):

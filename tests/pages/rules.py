@@ -119,12 +119,8 @@ RULES = [
     Rule("limits", "FORMATS and MANUAL say each limit", owed.limits,
          plant(SOURCES, r"const MOST_ROWS: \w+ = [\d_]+;", "const MOST_ROWS: usize = 1_003;", "MANUAL.md does not say 1,003, MOST_ROWS")),
     # How the pages are written.
-    Rule("sentences", "a sentence has at most 40 words and one semicolon", partial(language.on_each, language.hard_sentences),
-         plant(FAQ, END, f"\n{'word ' * 41}.\n\nOne; two; three.\n", "41 words, 0 semicolons", "3 words, 2 semicolons")),
-    Rule("columns", "a line has at most 80 characters", partial(language.on_each, language.long_lines),
+    Rule("columns", "a line has at most 80 characters", language.long_lines,
          plant(FAQ, END, f"\n{'long ' * 16}!\n", "81 characters")),
-    Rule("cells", "a cell of PROVED has at most 40 words", language.long_cells,
-         plant(PROVED, END, f"\n| What | How |\n|---|---|\n| a | {'word ' * 41}|\n", "41 words in a cell")),
     Rule("terms", "no word of the glossary stands before a link to it", language.terms,
          plant(FAQ, START, "A snapshot\n\n", "FAQ.md:1: 'snapshot' is explained elsewhere")),
     Rule("translations", "a German page has the headings, blocks, rows, items, words in backticks, links and numbers of the English, no ß",
