@@ -63,8 +63,8 @@ def pytest_terminal_summary(terminalreporter):
     again = terminalreporter.stats.get("rerun", [])
     terminalreporter.section(f"{len(again)} run again")
     for it in again:
-        said = str(getattr(getattr(it.longrepr, "reprcrash", None), "message", it.longrepr)).partition("\n")[0]
-        terminalreporter.line(f"run again: {it.nodeid}: {said}")
+        said = str(getattr(getattr(it.longrepr, "reprcrash", None), "message", it.longrepr)).split("\n")
+        terminalreporter.line(f"run again: {it.nodeid}: {': '.join(said[:2])}")
 
 
 @pytest.fixture
