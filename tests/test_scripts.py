@@ -14,6 +14,10 @@ from places import TOP
 RT = r"""#!/usr/bin/env bash
 case "$1" in
     version) echo "${VERSION:-kit of the test}" ;;
+    check)
+        mkdir -p out/incremental
+        printf 'fn a: proved\nlogic=proved\n'
+        ;;
     lib)
         [ ! -e "$ROOM/refused" ] || exit 1
         [ -z "${HELD:-}" ] || until [ -e "$ROOM/go" ]; do sleep 0.1; done
@@ -144,6 +148,13 @@ def test_what_is_proved_is_not_proved_again(built, name):
     built(f"scripts/build {name}")
     assert built(f"scripts/build {name}")[0] == f"these sources are proved; the program is crates/{name}/out/{name}\n"
     assert "zh_low proved, " in built(f"{CHANGE}; scripts/build {name}")[0]
+
+
+def test_a_first_check_says_what_comes_before(sh):
+    assert sh("make -s check CRATE=zh_low") == ("logic=proved\n", "", 0)
+    said = sh("make -s check CRATE=zhcount")[0]
+    assert said.startswith("crates below this one come first, 1 at most, ") and said.endswith("\nlogic=proved\n")
+    assert sh("make -s check CRATE=zhcount") == ("logic=proved\n", "", 0)
 
 
 def test_a_build_that_is_refused_names_its_crate(built):
