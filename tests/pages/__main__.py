@@ -3,22 +3,18 @@
   rules              what is held: each rule by its name
   check [RULE]..     whether these rules hold, or all but the examples, which need the built program and a minute
   run [PAGE]..       whether the examples of these pages, or of all, do what they show
-  write              writes what pages have from the sources: the definitions of the headline, its fields, the evidence
+  write              writes what pages have from the sources: the definitions of the headline, its fields, the evidence, the layers
   reach [CLAUSE]..   the definitions that clauses rest on, as they can be read one after another, and the names of the
                      toolchain that they use: of `program.headline`, of `Office::line` as a whole, or of all in PROVED
-  owed               the words that pages owe their readers
-  links FOLDER       the links of a folder's pages that lead to no place in it
 """
 import sys
 from pathlib import Path
-from typing import Callable, Dict
 
 sys.dont_write_bytecode = True
 sys.path.insert(0, str(Path(__file__).resolve().parents[1]))
 
-from pages.cited import lost_links, promised
+from pages.cited import promised
 from pages.examples import examples
-from pages.owed import words
 from pages.rules import RULES
 from pages.sources import Tree
 from pages.written import write
@@ -31,11 +27,19 @@ def told(found):
     return min(len(found), 1)
 
 
+def rules(tree):
+    print(*(f"{it.name}: {it.asks}" for it in RULES), sep="\n")
+
+
 def check(tree, *names):
     asked = [it for it in RULES if it.name in names or not names and it.faults is not examples]
     if len(asked) < len(names):
         sys.exit(f"The rules are: {', '.join(it.name for it in RULES)}.")
     return told(it for rule in asked for it in rule.faults(tree))
+
+
+def run(tree, *pages):
+    return told(examples(tree, pages))
 
 
 def reach(tree, *names):
@@ -53,17 +57,9 @@ def reach(tree, *names):
     print(f"{len(clauses)} clauses, {len(reached)} of {len(tree.definitions)} definitions, {lines} lines")
 
 
-COMMANDS: Dict[str, Callable] = {
-    "rules": lambda tree: print(*(f"{it.name}: {it.asks}" for it in RULES), sep="\n"),
-    "check": check,
-    "run": lambda tree, *pages: told(examples(tree, pages)),
-    "write": write,
-    "reach": reach,
-    "owed": lambda tree: print(*(f"{what}: {word}" for what, _, word in words(tree)), sep="\n"),
-    "links": lambda tree, folder: told(lost_links(folder)),
-}
+COMMANDS = {it.__name__: it for it in (rules, check, run, write, reach)}
 
 if __name__ == "__main__":
-    command, *words_given = sys.argv[1:] or [""]
+    command, *words = sys.argv[1:] or [""]
     top = Path(__file__).resolve().parents[2]
-    sys.exit(COMMANDS[command](Tree(top), *words_given) if command in COMMANDS else __doc__)
+    sys.exit(COMMANDS[command](Tree(top), *words) if command in COMMANDS else __doc__)

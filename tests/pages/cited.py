@@ -141,8 +141,7 @@ def layers(tree):
 
 def trusted(tree):
     """Where README trusts other libraries of the kit than those that crates.txt names: some call the system, with no clause."""
-    named = {crate: set(below.split()) for crate, below in re.findall(r"^(\w+)[^:\n#]*:(.*)", tree.read("crates.txt"), re.M)}
-    used = set().union(*named.values()) - set(named)
+    used = set().union(*tree.named.values()) - set(tree.named)
     said = re.search(r"do what their contracts say:([^.]*)", tree.read("README.md"))
     listed = set(re.findall(r"`(\w+)`", said[1])) if said else set()
     for it in sorted(used ^ listed):

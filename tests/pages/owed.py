@@ -18,6 +18,7 @@ WORDS = {
     "argument": (FORMATS, "rules_of wants_version"),
     "key of a set-up": (FORMATS, "key_name"),
 }
+WORD = r'codes " ?((?!refused")[a-z_ -]*[a-z]) ?"'
 EXPLAINED = ("refusal", "fault")  # by a row of MANUAL
 
 # Constants that a reader meets, each with its crate, by the page that has them; and the definitions that have limits of a set-up.
@@ -32,53 +33,36 @@ OF_SETUP = "limits_text setup_of quorum_of constituency_from"
 
 
 def found_in(tree, names, pattern):
-    """What the pattern finds in these definitions, each once."""
+    """What the pattern finds in these definitions, each once. All of them have to be there."""
     named = {it.key for it in tree.definitions.values() if it.name in names.split()}
     used = [tree.definitions[key] for key in tree.followed(named)[0]]
+    gone = set(names.split()) - {it.name for it in used}
+    assert not gone, f"there is no definition {' '.join(gone)} any more"
     texts = ["\n".join(it.text) for it in used if it.key in named or it.name.endswith(("_name", "_rules"))]
     return sorted({word for text in texts for word in re.findall(pattern, text)})
 
 
-def gone(tree, names):
-    there = {it.name for it in tree.definitions.values()}
-    return [f"there is no definition {name} any more" for name in names.split() if name not in there]
-
-
-def words(tree):
-    """The words that are owed: what each is, its page, and how it stands there."""
-    for what, (page, names) in WORDS.items():
-        dashes = "--" * (what == "argument")
-        yield from ((what, page, dashes + it) for it in found_in(tree, names, r'codes " ?((?!refused")[a-z_ -]*[a-z]) ?"'))
-
-
 def said(tree):
     """Words that their page does not say, or MANUAL does not explain."""
-    texts = {page: tree.read(page) for page in (FORMATS, MANUAL)}
-    code = {page: code_of(text) for page, text in texts.items()}
-    yield from gone(tree, " ".join(names for _, names in WORDS.values()))
-    for what, page, word in words(tree):
-        if not re.search(rf"(?<![\w-]){re.escape(word)}(?![\w-])", code[page]):
-            yield f"{page} does not say `{word}` ({what})"
-        row = rf"^\| [^|\n]*`{re.escape(word)}(?: [A-Za-z ]+)?`[^|\n]*\|"
-        if what in EXPLAINED and not re.search(row, texts[MANUAL], re.M):
-            yield f"{MANUAL} has no row of `{word}` ({what})"
-
-
-def numbers(tree):
-    """The limits that are owed: the page, whose limit it is, and the number; or none, where there is no such constant."""
-    for page, crate, name in ((page, *it.split()) for page, names in LIMITS.items() for it in names.split(",")):
-        texts = (text for *_, text in tree.files("src/**/*.rt", [crate]))
-        found = [it for text in texts for it in re.findall(rf"const {name}: \w+ = ([\d_]+);", text)]
-        yield from ((page, f"{name} of {crate}", it) for it in found or [None])
-    yield from ((FORMATS, "a limit of a set-up", it) for it in found_in(tree, OF_SETUP, r"(?<![\w.])(?!1\b)\d+\b"))
+    manual, code = tree.read(MANUAL), {page: code_of(tree.read(page)) for page in (FORMATS, MANUAL)}
+    for what, (page, names) in WORDS.items():
+        for word in found_in(tree, names, WORD):
+            word = "--" * (what == "argument") + word
+            if not re.search(rf"(?<![\w-]){re.escape(word)}(?![\w-])", code[page]):
+                yield f"{page} does not say `{word}` ({what})"
+            row = rf"^\| [^|\n]*`{re.escape(word)}(?: [A-Za-z ]+)?`[^|\n]*\|"
+            if what in EXPLAINED and not re.search(row, manual, re.M):
+                yield f"{MANUAL} has no row of `{word}` ({what})"
 
 
 def limits(tree):
     texts = {FORMATS: tree.read(FORMATS), MANUAL: part_of(tree.read(MANUAL), "Limits")}
-    yield from gone(tree, OF_SETUP)
-    for page, what, found in numbers(tree):
-        number = f"{int(found or 0):,}"
-        if not found:
-            yield f"there is no {what} any more"
-        elif not re.search(rf"(?<![\d,.]){re.escape(number)}(?![\d,]*\d)", texts[page]):
-            yield f"{page} does not say {number}, {what}"
+    owed = [(FORMATS, "a limit of a set-up", it) for it in found_in(tree, OF_SETUP, r"(?<![\w.])(?!1\b)\d+\b")]
+    for page, crate, name in ((page, *it.split()) for page, names in LIMITS.items() for it in names.split(",")):
+        text = "\n".join(text for *_, text in tree.files("src/**/*.rt", [crate]))
+        found = re.findall(rf"const {name}: \w+ = ([\d_]+);", text)
+        assert found, f"there is no {name} of {crate} any more"
+        owed += [(page, f"{name} of {crate}", it) for it in found]
+    for page, what, number in owed:
+        if not re.search(rf"(?<![\d,.]){int(number):,}(?![\d,]*\d)", texts[page]):
+            yield f"{page} does not say {int(number):,}, {what}"

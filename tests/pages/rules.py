@@ -1,142 +1,89 @@
-"""The table of all that is held: each rule with what it asks for, the function that finds its faults, and a violation that it
-has to see, which is planted in a copy of the tree."""
-import re
-import subprocess
+"""The table of all that is held: each rule with a violation that it has to see, which is planted in a copy of the tree."""
 from collections import namedtuple
-from contextlib import contextmanager
 from functools import partial
 from itertools import chain
 
 from pages import cited, examples, language, owed, shape, written
 
 START, END = r"\A", r"\Z"
-# Files that a plant adds, and pages that it changes.
+# Files that a violation adds, and pages that it changes.
 SPEC, SOURCE = "crates/zh_disk/specs/Planted.antt", "crates/zh_disk/src/planted.rt"
 SPECS, SOURCES = "crates/*/specs/**/*.antt", "crates/*/src/**/*.rt"
 FAQ, GERMAN, PROVED = "docs/FAQ.md", "docs/de/NIGHT.md", "docs/PROVED.md"
 
-
-# What is held: its name, what it asks for, the function that finds its faults, and the violation that it sees.
-Rule = namedtuple("Rule", "name asks faults plant")
-
-# A violation: the path of some files, a pattern, and what is put in place of the first text that this finds in them; and what is
-# said of it.
-Plant = namedtuple("Plant", "changes seen")
-
-
-def plant(path, pattern, text, *seen):
-    return Plant([(path, pattern, text)], seen)
-
-
-@contextmanager
-def planted(plant, top):
-    """A tree while it has these changes."""
-    before = {}
-    try:
-        for path, pattern, text in plant.changes:
-            texts = {it: it.read_text(encoding="utf-8") if it.exists() else "" for it in sorted(top.glob(path)) or [top / path]}
-            file = next((it for it, old in texts.items() if re.search(pattern, old, re.M)), None)
-            assert file, f"{path} has no place for what is to be planted: {pattern}"
-            before.setdefault(file, texts[file] if file.exists() else None)
-            file.write_text(re.sub(pattern, lambda _: text, texts[file], count=1, flags=re.M), encoding="utf-8")
-        yield
-    finally:
-        for file, text in before.items():
-            file.unlink() if text is None else file.write_text(text, encoding="utf-8")
-
-
-def drawings(tree):
-    said = subprocess.run([tree.top / "scripts/drawing", "--check"], capture_output=True, text=True)
-    return (said.stdout + said.stderr).splitlines()
-
+# What is held: its name, what it asks for, and the function that finds its faults. The changes of its violation: the path of some files, a
+# pattern, and what is put in place of the first text that this finds in them; and what is said of it.
+Rule = namedtuple("Rule", "name asks faults changes seen")
 
 RULES = [
     # The shape of the crates.
     Rule("reached", "a clause, law or ghost field of a source reaches each definition",
          lambda tree: [f"no clause reaches {key}" for key in tree.unreached()],
-         plant(SPEC, END, "abbrev pub planted : ℕ\nplanted = 1\n", r"no clause reaches zh_disk\.specs\.Planted\.planted")),
-    Rule("names", "no two crates define one name",
-         partial(shape.above, "name", "crates that define one name", shape.names),
-         Plant([(SPEC, END, "pub record Office : Type 0 where\n"), ("tests/shape/exceptions", START, "  name Planted\n")],
-               ["Office is defined in zh_disk and zh_office", "exceptions begins without a reason", "'name Planted' is not needed"])),
-    Rule("parameters", "no definition has more parameters than its limit",
-         partial(shape.above, "parameters", "parameters of a definition", shape.parameters),
-         plant(SPEC, END, "abbrev pub planted : {A : Type 0} → ((ℕ → ℕ) → ℕ) → (a b c : ℕ) → (d : ℕ) × (d ≡ d) → A → A → A\n",
-               r"planted in \S*Planted.antt has 7 parameters")),
-    Rule("characters", "no line of a crate is longer than its limit",
-         partial(shape.above, "line", "characters of a line", shape.characters),
-         plant(SPEC, END, f"-- {'≡' * 138}\n", r"Planted\.antt:1 has 141 characters")),
-    Rule("definitions", "definitions, and lines of them, are within their limits", shape.definitions,
-         plant(SPEC, END, "".join(f"abbrev pub planted{it} : ℕ\nplanted{it} = {it}\n" for it in range(4000)),
-               r"^definitions: \d+, and not", r"^lines of definitions: \d+, and not")),
-    Rule("clauses", "clauses, and those that say what another says, are within their limits", shape.clauses,
-         plant(SOURCE, END, "fn planted()\n    ensures planted { ⊥ }\n{\n}\n" * 3000,
-               r"^ensures clauses: \d+", r"elsewhere: \d+", "3000 times planted { ⊥ }")),
-    Rule("destructors", "no type of a crate has a destructor of its own", shape.destructors,
-         plant(SOURCE, END, "impl<D: File + Drop>\n    Drop for HeldFile<D> {\n}\nuse std::prelude::Drop as Let;\n"
-               "impl<D: File> Drop /* a file */ for HeldFile<D> {\n}\nimpl<const N: usize = { 1 }> Drop for Held<N> {\n}\n"
-               "const A: &str = \"//\"; impl Drop for Held {\n}\n",
-               *(rf"planted\.rt:{line} has a destructor" for line in (2, 4, 5, 7, 9)))),
-    Rule("unread", "no crate has macros of its own, or unsafe code", shape.unread,
-         plant(SOURCE, END, "macro_rules! let_go {\n    ($t:ty) => {}\n}\n// unsafe\n#[unsafe(no_mangle)]\nfn a() {\n"
-               "    unsafe { b() }\n}\n",
-               r"planted\.rt:1 has `macro_rules`", r"planted\.rt:7 has `unsafe`")),
+         [(SPEC, END, "abbrev pub planted : ℕ\nplanted = 1\n")], [r"no clause reaches zh_disk\.specs\.Planted\.planted"]),
+    Rule("names", "no two crates define one name", shape.names,
+         [(SPEC, END, "pub record Office : Type 0 where\n"), ("crates/zh_journal/src/fault.rt", "pub enum AppendFault", "enum Planted")],
+         ["Office is defined in zh_disk and zh_office", "AppendFault is not needed"]),
+    Rule("characters", "no line of a crate is longer than its limit", shape.characters,
+         [(SPEC, END, f"-- {'≡' * 138}\n")], [r"Planted\.antt:1 has 141 characters"]),
+    Rule("repeated", "clauses that say what another says are within their limit", shape.repeated,
+         [(SOURCE, END, "fn planted()\n    ensures planted { ⊥ }\n{\n}\n" * 3000)], [r"\d clauses stand", "3000 times planted { ⊥ }"]),
+    Rule("unread", "no crate has destructors or macros of its own, or unsafe code", shape.unread,
+         [(SOURCE, END, "impl<D: File + Drop>\n    Drop for HeldFile<D> {\n}\nuse std::prelude::Drop as Let;\n"
+           "impl<D: File> Drop /* a file */ for HeldFile<D> {\n}\nimpl<const N: usize = { 1 }> Drop for Held<N> {\n}\n"
+           "const A: &str = \"//\"; impl Drop for Held {\n}\nmacro_rules! let_go {\n    ($t:ty) => {}\n}\n// unsafe\n"
+           "#[unsafe(no_mangle)]\nfn a() {\n    unsafe { b() }\n}\n")],
+         [*(rf"planted\.rt:{line} has `Drop`" for line in (2, 4, 5, 7, 9)), r"planted\.rt:11 has `macro_rules`",
+          r"planted\.rt:17 has `unsafe`"]),
     # What the pages cite.
     Rule("carried", "each function and clause of PROVED's column 'Carried by' is there", lambda tree: cited.promised(tree)[1],
-         plant(PROVED, END, "\n## `zh_disk`\n\n| What | Carried by |\n|---|---|\n| a | `planted` |\n| b | as above |\n"
-               "| c | `Disk::read_at` planted |\n",
-               "there is no planted", "can't be read: as above", "Disk::read_at has no clause planted")),
+         [(PROVED, END, "\n## `zh_disk`\n\n| What | Carried by |\n|---|---|\n| a | `planted` |\n| b | as above |\n"
+           "| c | `Disk::read_at` planted |\n")],
+         ["there is no planted", "can't be read: as above", "Disk::read_at has no clause planted"]),
     Rule("things", "each file, edit, case, crate and function in backticks is there", cited.things,
-         Plant([(FAQ, END, "\n`planted.edit`, `zh_planted`, `crates/planted`, `src/planted.rt`, `Planted::gone`\n"),
-                (cited.ARCHITECTURE, END, "\n`planted_name`\n")],
-               [f"there is no {it}" for it in ("planted.edit", "zh_planted", "crates/planted", "src/planted.rt", "Planted::gone",
-                                               "planted_name")])),
+         [(FAQ, END, "\n`planted.edit`, `zh_planted`, `crates/planted`, `src/planted.rt`, `Planted::gone`\n"),
+          (cited.ARCHITECTURE, END, "\n`planted_name`\n")],
+         [f"there is no {it}"
+          for it in ("planted.edit", "zh_planted", "crates/planted", "src/planted.rt", "Planted::gone", "planted_name")]),
     Rule("places", "what a link names stands in the link's file: a function, a type or a definition", cited.places,
-         plant(FAQ, END, "\n[`open_gate`](../crates/zh_disk/src/disk.rt), [`Disk::planted`](../crates/zh_disk/src/disk.rt)\n",
-               "open_gate does not stand in crates/zh_disk/src/disk.rt", "Disk::planted does not stand in")),
+         [(FAQ, END, "\n[`open_gate`](../crates/zh_disk/src/disk.rt), [`Disk::planted`](../crates/zh_disk/src/disk.rt)\n")],
+         ["open_gate does not stand in crates/zh_disk/src/disk.rt", "Disk::planted does not stand in"]),
     Rule("links", "each link leads to a file, and to a heading of it",
          lambda tree: cited.lost_links(tree.top, ("*.md", "docs/**/*.md", "examples/**/*.md", "*/*.md")),
-         plant(FAQ, END, "\n[a](PLANTED.md) [b](#planted) [c](NIGHT.md#planted)\n",
-               " PLANTED.md leads nowhere", " #planted leads nowhere", " NIGHT.md#planted leads nowhere")),
+         [(FAQ, END, "\n[a](PLANTED.md) [b](#planted) [c](NIGHT.md#planted)\n")],
+         [" PLANTED.md leads nowhere", " #planted leads nowhere", " NIGHT.md#planted leads nowhere"]),
     Rule("layers", "ARCHITECTURE has the layers of crates.txt, and says of a crate what its root file begins with", cited.layers,
-         Plant([("crates.txt", END, "zh_planted:\n"), ("crates/zh_disk/src/lib.rt", "^//! ", "//! Planted: ")],
-               ["crates.txt .* zh_planted in", "the root file of zh_disk does not begin with"])),
+         [("crates.txt", END, "zh_planted:\n"), ("crates/zh_disk/src/lib.rt", "^//! ", "//! Planted: ")],
+         ["crates.txt .* zh_planted in", "the root file of zh_disk does not begin with"]),
     Rule("trusted", "README names the libraries of the kit that are trusted, which are those that crates use", cited.trusted,
-         Plant([("crates.txt", END, "zh_planted: zh_disk libc\n"), ("README.md", "`hex` in", "`planted` in")],
-               ["does not say that libc is trusted", "does not say that hex is trusted", "trusts planted, which no crate uses"])),
+         [("crates.txt", END, "zh_planted: zh_disk libc\n"), ("README.md", "`hex` in", "`planted` in")],
+         ["does not say that libc is trusted", "does not say that hex is trusted", "trusts planted, which no crate uses"]),
     # What is written into the pages.
     Rule("headline", "DEFINITIONS lists what the headline reaches", partial(written.differences, written.definitions),
-         plant("docs/DEFINITIONS.md", r"^- \[`zh_", "- [`planted", r"DEFINITIONS.md:\d+: .* writes '- \[`zh_")),
+         [("docs/DEFINITIONS.md", r"^- \[`zh_", "- [`planted")], [r"DEFINITIONS.md:\d+: .* writes '- \[`zh_"]),
     Rule("theorem", "PROVED quotes the record `Headline`", partial(written.differences, written.theorem),
-         plant(PROVED, "(?<=### What `Headline` says\n\n)", "- planted\n", r"PROVED.md:\d+: .* writes '```text")),
+         [(PROVED, "(?<=### What `Headline` says\n\n)", "- planted\n")], [r"PROVED.md:\d+: .* writes '```text"]),
     Rule("numbers", "PROVED counts the evidence", partial(written.differences, written.numbers),
-         plant(SPEC, END, "abbrev pub planted : ℕ\n", r"writes '\| definitions \| ")),
-    Rule("drawings", "the layers are drawn as scripts/drawing draws them", drawings,
-         plant("docs/layers.svg", END, "<!-- planted -->\n", "docs/layers.svg is not what scripts/drawing draws")),
+         [(SPEC, END, "abbrev pub planted : ℕ\n")], [r"writes '\| definitions \| "]),
+    Rule("drawing", "docs/layers.svg draws the layers of crates.txt", partial(written.differences, written.layers),
+         [("docs/layers.svg", ">text, office<", ">planted<")], [r"layers.svg:\d+: .*>text, office<"]),
     # What the pages owe.
     Rule("said", "FORMATS and MANUAL say each reply, refusal, fault, task, table, argument and key", owed.said,
-         plant(SPECS, 'codes "stale"', 'codes "planted"', "FORMATS.md does not say `planted`", "MANUAL.md has no row of `planted`")),
+         [(SPECS, 'codes "stale"', 'codes "planted"')], ["FORMATS.md does not say `planted`", "MANUAL.md has no row of `planted`"]),
     Rule("limits", "FORMATS and MANUAL say each limit", owed.limits,
-         plant(SOURCES, r"const MOST_ROWS: \w+ = [\d_]+;", "const MOST_ROWS: usize = 1_003;", "MANUAL.md does not say 1,003, MOST_ROWS")),
-    # How the pages are written.
-    Rule("columns", "a line has at most 80 characters", language.long_lines,
-         plant(FAQ, END, f"\n{'long ' * 16}!\n", "81 characters")),
-    Rule("terms", "no word of the glossary stands before a link to it", language.terms,
-         plant(FAQ, START, "A snapshot\n\n", "FAQ.md:1: 'snapshot' is explained elsewhere")),
+         [(SOURCES, r"const MOST_ROWS: \w+ = [\d_]+;", "const MOST_ROWS: usize = 1_003;")], ["MANUAL.md does not say 1,003, MOST_ROWS"]),
     Rule("translations", "a German page has the headings, blocks, rows, items, words in backticks, links and numbers of the English, no ß",
          language.translations,
-         Plant([(GERMAN, END, "\n- Spaß: 77777 `planted` [dort](BRIEF.md)\n\n| a | b |\n\n```text\nplanted\n```\n"),
-                ("docs/de/BRIEF.md", END, "\n## Anderes\n")],
-               ["its headings are not those of docs/BRIEF.md", "ß in this section",
-                *(f"{it} not in" for it in ("block", "row of a table", "item", "word in backticks", "link", "number"))])),
+         [(GERMAN, END, "\n- Spaß: 77777 `planted` [dort](BRIEF.md)\n\n| a | b |\n\n```text\nplanted\n```\n"),
+          ("docs/de/BRIEF.md", END, "\n## Anderes\n")],
+         ["its headings are not those of docs/BRIEF.md", "ß in this section",
+          *(f"{it} not in" for it in ("block", "row of a table", "item", "word in backticks", "link", "number"))]),
     # The examples of the pages.
     Rule("left out", "each block that is not run is there, and has its reason", examples.left_out,
-         plant(examples.LEFT_OUT, START, f"  {FAQ}: planted\n", "FAQ.md has no block 'planted'", "left_out begins without a reason")),
+         [(examples.LEFT_OUT, START, f"  {FAQ}: planted\n")], ["FAQ.md has no block 'planted'", "left_out begins without a reason"]),
     Rule("examples", "each block does what it shows", examples.examples,
-         Plant([(page, START, "    exit 7\n\n") for page in chain(*examples.GROUPS) if page != FAQ]
-               + [(FAQ, START, "    $ seq 2\n    1\n    $ (exit 3)\n\n```text\nplanted\n```\n\n"),
-                  (GERMAN, START, "    false\n    true\n\nand\n\n")],
-               (r"FAQ\.md:1: seq 2\s+the page: 1\s+printed:  1\s+printed:  2", r"FAQ\.md:1: .exit 3.\s+its status is 3",
-                r"FAQ\.md:6: planted: it is neither run nor left out", r"NIGHT\.md:1: false\s+true\s+its status is 1",
-                r"NIGHT\.md:6: exit 7\s+it ended the shell"))),
+         [*((page, START, "    exit 7\n\n") for page in chain(*examples.GROUPS) if page != FAQ),
+          (FAQ, START, "    $ seq 2\n    1\n    $ (exit 3)\n\n```text\nplanted\n```\n\n"), (GERMAN, START, "    false\n    true\n\nand\n\n")],
+         [r"FAQ\.md:1: seq 2\s+the page: 1\s+printed:  1\s+printed:  2", r"FAQ\.md:1: .exit 3.\s+its status is 3",
+          r"FAQ\.md:6: planted: it is neither run nor left out", r"NIGHT\.md:1: false\s+true\s+its status is 1",
+          r"NIGHT\.md:6: exit 7\s+it ended the shell"]),
 ]

@@ -117,7 +117,9 @@ class Tree:
     def __init__(self, top):
         self.top = Path(top)
         self.pages = ["README.md", *sorted(str(it.relative_to(top)) for it in (self.top / "docs").rglob("*.md"))]
-        layers = re.findall(r"^# (.+)\n((?:\w.+\n|\n)*)", self.read("crates.txt"), re.M)
+        text = self.read("crates.txt")
+        self.named = {crate: below.split() for crate, below in re.findall(r"^(\w+)[^:\n#]*:(.*)", text, re.M)}
+        layers = re.findall(r"^# (.+)\n((?:\w.+\n|\n)*)", text, re.M)
         self.layers = {title: re.findall(r"^\w+", crates, re.M) for title, crates in layers if crates.strip()}
         self.crates = [it for crates in self.layers.values() for it in crates]
 

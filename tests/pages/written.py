@@ -1,8 +1,9 @@
-"""What is written into pages from the sources: the definitions of the headline, its record, and the evidence in numbers."""
+"""What is written into pages from the sources: the definitions of the headline, its record, the evidence in numbers, and a drawing."""
 import re
 from itertools import groupby, zip_longest
 
 from edited.entries import entries_of
+from pages.drawn import layers
 from pages.markdown import wrapped
 
 
@@ -33,9 +34,6 @@ def theorem(tree):
 
 def numbers(tree):
     """What is counted, how much of it there is, and how that is checked."""
-    def files(pattern):
-        return len(list(tree.top.glob(pattern)))
-
     def found(pattern, text):
         return sum(len(re.findall(text, path.read_text(encoding="utf-8"), re.M)) for path in tree.top.glob(pattern))
 
@@ -47,7 +45,7 @@ def numbers(tree):
         return f"about {round(number, 2 - len(str(number))):,}"
 
     cases, turns = map(int, re.search(r"^all: (\d+) cases, (\d+) turns", tree.read("crates/zh_cases/stdout"), re.M).groups())
-    bodies = files("crates/*/must-fail/*.edit") + entries("tests/wrong_bodies/*.edits")
+    bodies = len(list(tree.top.glob("crates/*/must-fail/*.edit"))) + entries("tests/wrong_bodies/*.edits")
     reached = reached_by_headline(tree)
     rows = [
         ("crates", len(tree.crates), "`crates.txt`"),
@@ -76,9 +74,10 @@ def numbers(tree):
 
 # Each part that is written: its page, and where it stands there.
 PARTS = {
-    definitions: ("docs/DEFINITIONS.md", re.compile(r"\n## The headline\n(?:(?!##? ).*\n)*?(?=### )((?:(?!##? ).*\n)*)")),
-    theorem: ("docs/PROVED.md", re.compile(r"\n### What `Headline` says\n\n((?:(?!#).*\n)*)(?=#)")),
-    numbers: ("docs/PROVED.md", re.compile(r"\n## The evidence in numbers\n\n((?:\|.*\n)+)")),
+    definitions: ("docs/DEFINITIONS.md", r"\n## The headline\n(?:(?!##? ).*\n)*?(?=### )((?:(?!##? ).*\n)*)"),
+    theorem: ("docs/PROVED.md", r"\n### What `Headline` says\n\n((?:(?!#).*\n)*)(?=#)"),
+    numbers: ("docs/PROVED.md", r"\n## The evidence in numbers\n\n((?:\|.*\n)+)"),
+    layers: ("docs/layers.svg", r"((?:.*\n)*)"),
 }
 
 
@@ -86,8 +85,7 @@ def rewritten(part, tree):
     """The page of a part, its text, and its text with what is written there."""
     page, place = PARTS[part]
     text = tree.read(page)
-    found = place.search(text)
-    start, end = found.span(1) if found else (len(text), len(text))
+    start, end = re.search(place, text).span(1)
     return page, text, text[:start] + part(tree) + text[end:]
 
 
