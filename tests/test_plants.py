@@ -12,7 +12,6 @@ test is run for it. As a control, each test that a plant names must pass on a co
 
 A run that sees all mistakes of desks or of the page writes the sum of their files to tests/plants.passed. While the sum stays,
 `make test` tries IN_TURN of them, other ones after each commit; with another sum it tries all. Those of tests/real_file are slow."""
-import glob
 import hashlib
 import importlib
 import os
@@ -20,11 +19,7 @@ import re
 import shutil
 import subprocess
 import sys
-import time
-from contextlib import suppress
-from dataclasses import dataclass
-from pathlib import Path
-from typing import Callable, Dict, Iterator, List, Optional, Set
+from collections import namedtuple
 
 import pytest
 
@@ -42,48 +37,37 @@ FIELDS = {"seen by", "says", "changes nothing", "old", "new"}
 ERRORS = r"AssertionError|Failed|FileNotFoundError|PermissionError|BrokenPipeError|subprocess\.\w+"
 SEEN = re.compile(rf"= FAILURES =(?:.|\n)*?^E   (?:(?:{ERRORS}): (.*)(?:\nE   (assert .*))?|(assert .*))", re.M)
 LATE = re.compile(r"not after [\d.]+ seconds|.* timed out after [\d.]+ seconds")
-Plant = Dict[str, str]
 
 
-@dataclass(frozen=True)
-class Part:
+class Part(namedtuple("Part", "name folder whole fault says marks")):
     """What the plants of a folder of tests are about: the folder whose files are changed, the one that is copied for it, what a test
     reports that fails on the copy, or None if it passes, whether each plant says that, and the marks of its plants."""
-    name: str
-    folder: str
-    whole: str
-    fault: Callable[[str, Path, Path, pytest.FixtureRequest], Optional[str]]
-    says: bool = True
-    marks: tuple = ()
 
-    def plants(self) -> Dict[str, Plant]:
-        folder = TOP / "tests" / self.name / "plants"
-        found: Dict[str, Plant] = {}
-        for file in sorted(folder.glob("*.edits")):
+    def plants(self):
+        found = {}
+        for file in sorted((TOP / "tests" / self.name / "plants").glob("*.edits")):
             entries = {name: {"file": file.stem, **plant_in(text, self.says)} for name, text in entries_of(file).items()}
             assert not entries.keys() & found.keys(), f"{file} has a name that another file has"
             found.update(entries)
         return found
 
-    def files(self) -> List[Path]:
-        """What a mistake is seen by: the scripts, their tests, and what all tests share."""
+    def sum(self):
+        """Of what a mistake is seen by: the scripts, their tests, and what all tests share."""
         folders = [(TOP / self.folder).parent if self.name == "page" else TOP / self.folder, TOP / "tests" / self.name]
         found = [it for folder in folders for it in folder.rglob("*") if it.is_file() and not UNREAD & {it.suffix, *it.parts}]
-        return sorted([*found, Path(__file__), TOP / "tests/conftest.py"])
+        files = sorted([*found, TOP / "tests/test_plants.py", TOP / "tests/conftest.py"])
+        return hashlib.sha256(repr([(str(it.relative_to(TOP)), it.read_bytes()) for it in files]).encode()).hexdigest()[:32]
 
-    def sum(self) -> str:
-        return hashlib.sha256(repr([(str(it.relative_to(TOP)), it.read_bytes()) for it in self.files()]).encode()).hexdigest()[:32]
-
-    def copied(self, room: Path) -> Path:
+    def copied(self, room):
         """A copy of what the plants are about, and the folder in it whose files they change."""
-        source = Path(os.environ["DESKS"]) if self.name == "desks" else TOP / self.whole
+        source = os.environ["DESKS"] if self.name == "desks" else TOP / self.whole
         shutil.copytree(source, room / "copy" / self.whole, symlinks=True, ignore=shutil.ignore_patterns("out", ".git"))
         return room / "copy" / self.folder
 
 
-def plant_in(text: str, says: bool) -> Plant:
+def plant_in(text, says):
     """The fields of a plant, each with its text."""
-    found: Plant = {}
+    found = {}
     for line in text.splitlines():
         name, colon, rest = line.partition(":")
         assert name in FIELDS and colon, f"this line is none of a plant: {line[:80]}"
@@ -94,7 +78,7 @@ def plant_in(text: str, says: bool) -> Plant:
     return found
 
 
-def put(plant: Plant, folder: Path) -> None:
+def put(plant, folder):
     path, = folder.rglob(plant["file"])
     text = path.read_text()
     assert text.count(plant["old"]) == 1, f"the right text is in {plant['file']} {text.count(plant['old'])} times, not once"
@@ -104,7 +88,7 @@ def put(plant: Plant, folder: Path) -> None:
 # What a test of each part reports on the copy of a folder.
 
 
-def fault_of_pytest(part: str, test: str, top: Path, environment: Dict[str, str]) -> Optional[str]:
+def fault_of_pytest(part, test, top, environment):
     words = [sys.executable, "-m", "pytest", "-n0", "-x", "--tb=short", "-p", "no:cacheprovider", f"tests/{part}/{test}"]
     done = subprocess.run(words, cwd=top, env={**environment, "CI": "has lines of any length"}, stdout=subprocess.PIPE,
                           stderr=subprocess.STDOUT, text=True)
@@ -115,7 +99,7 @@ def fault_of_pytest(part: str, test: str, top: Path, environment: Dict[str, str]
     return ": ".join(filter(None, found.groups()))
 
 
-def of_desks(test: str, folder: Path, room: Path, request: pytest.FixtureRequest) -> Optional[str]:
+def of_desks(test, folder, room, request):
     """A mistake may have the test wait in vain: where it does not say for what, the test waits for nothing long."""
     request.getfixturevalue("program")
     says = request.node.callspec.params.get("plant", {}).get("says", "")
@@ -125,34 +109,18 @@ def of_desks(test: str, folder: Path, room: Path, request: pytest.FixtureRequest
     return fault_of_pytest("desks", test, TOP, {**waits, **os.environ, "DESKS": str(folder)})
 
 
-def of_the_operating_system(test: str, folder: Path, room: Path, request: pytest.FixtureRequest) -> Optional[str]:
-    return fault_of_pytest("real_file", test, folder.parents[1], {**os.environ, "ZHCOUNT": str(compiled(folder, room))})
-
-
-def compiled(folder: Path, room: Path) -> Path:
-    """The program of the crates that `folder` is among, compiled unproved. It goes with its first run, but for another name."""
-    said, program = room / "said", room / "zhcount"
-    (room / "try").mkdir(exist_ok=True)
-    words, environment = ["rt", "try", "--", "--version"], {**os.environ, "TMPDIR": str(room / "try")}
-    with open(said, "w") as output, subprocess.Popen(words, cwd=folder.parent / "zhcount", env=environment, stdin=subprocess.DEVNULL,
-                                                     stdout=output, stderr=output) as compiler:
-        while compiler.poll() is None:
-            for it in glob.glob(f"{room}/try/*/*/program"):
-                with suppress(FileExistsError, FileNotFoundError):
-                    os.link(it, program)
-            time.sleep(0.01)
-    assert program.exists(), f"it does not compile: {said.read_text()[-2000:]}"
-    return program
+def of_the_operating_system(test, folder, room, request):
+    """With the program of the copy, compiled unproved."""
+    top = folder.parents[1]
+    program = subprocess.run([top / "scripts/program"], stdout=subprocess.PIPE, text=True, check=True).stdout.strip()
+    return fault_of_pytest("real_file", test, top, {**os.environ, "ZHCOUNT": program})
 
 
 class Reports:
     """A plugin of pytest that keeps what the first test reports that fails, and how many pass."""
+    said, passed = None, 0
 
-    def __init__(self) -> None:
-        self.said: Optional[str] = None
-        self.passed = 0
-
-    def pytest_runtest_logreport(self, report: pytest.TestReport) -> None:
+    def pytest_runtest_logreport(self, report):
         self.passed += report.when == "call" and report.passed
         if report.failed and self.said is None:
             message = getattr(getattr(report.longrepr, "reprcrash", None), "message", str(report.longrepr))
@@ -162,16 +130,16 @@ class Reports:
 
 
 @pytest.fixture(scope="session")
-def browsers() -> Iterator[Callable]:
+def browsers():
     """A browser for each language, which stays for all mistakes that a process tries, since it takes long to start."""
     started = importlib.import_module("browser").started
-    drivers: Dict = {}
+    drivers = {}
     yield lambda language: drivers.get(language) or drivers.setdefault(language, started(language))
     for it in drivers.values():
         it.quit()
 
 
-def of_the_page(test: str, folder: Path, room: Path, request: pytest.FixtureRequest) -> Optional[str]:
+def of_the_page(test, folder, room, request):
     """The test runs in this process, so that it takes the browser that is there."""
     page, reports, case = room / "index.html", Reports(), importlib.import_module("case").Case
     page.write_text(seals.SEAL.sealed(folder))
@@ -186,18 +154,17 @@ def of_the_page(test: str, folder: Path, room: Path, request: pytest.FixtureRequ
 
 
 PARTS = [
-    Part("desks", "desks", "desks", of_desks),
-    Part("page", "page/parts", "page/parts", of_the_page),
+    Part("desks", "desks", "desks", of_desks, True, ()),
+    Part("page", "page/parts", "page/parts", of_the_page, True, ()),
     Part("real_file", "crates/zh_file", "", of_the_operating_system, False, (pytest.mark.slow, pytest.mark.xdist_group("rt try"))),
 ]
 
 
-def kept_sums() -> Dict[str, str]:
-    lines = PASSED.read_text().splitlines() if PASSED.is_file() else []
-    return dict(line.split() for line in lines)
+def kept_sums():
+    return dict(line.split() for line in PASSED.read_text().splitlines()) if PASSED.is_file() else {}
 
 
-def mistakes() -> List:
+def mistakes():
     """All of them. Those of a part that is as it was when all were seen are slow, but for those in turn."""
     found, kept, commits = [], kept_sums(), Tree(TOP).commits()
     for part in PARTS:
@@ -209,7 +176,7 @@ def mistakes() -> List:
     return found
 
 
-def keep_sums(passed: Set[str]) -> None:
+def keep_sums(passed):
     """Writes the sum of each part of whose mistakes all are among the tests that passed."""
     kept = kept_sums()
     for part in PARTS:
@@ -219,11 +186,11 @@ def keep_sums(passed: Set[str]) -> None:
         PASSED.write_text("".join(f"{name} {kept[name]}\n" for name in sorted(kept)))
 
 
-def controls() -> List:
+def controls():
     """Each test that a plant names, once. `make test` takes one of each file: there the others run on the same text anyway."""
-    found: List = []
+    found = []
     for part in PARTS:
-        files: Set[str] = set()
+        files = set()
         for test in sorted({it["seen by"] for it in part.plants().values() if "seen by" in it}):
             file = test.partition("::")[0]
             marks = (*part.marks, pytest.mark.slow) if file in files else part.marks
@@ -232,17 +199,17 @@ def controls() -> List:
     return found
 
 
-def told(said: str) -> str:
+def told(said):
     """What a test reports, without the time for which it waited."""
     return LATE.sub("not after", said, 1)
 
 
-def waited_in_vain(said: Optional[str], says: str) -> bool:
+def waited_in_vain(said, says):
     """Whether the test only waited for something that did not come, although the plant does not say for what."""
     return said is not None and bool(LATE.search(said)) and (not says.startswith("not after") or says not in told(said))
 
 
-def judge(said: Optional[str], says: str) -> None:
+def judge(said, says):
     """A fault counts if it is what the plant says. That nothing came for a while counts if the plant says so."""
     assert said is not None, "the test does not see it"
     assert not waited_in_vain(said, says), f"the test waited in vain, which counts for nothing here: {said}"
@@ -251,17 +218,16 @@ def judge(said: Optional[str], says: str) -> None:
 
 @pytest.mark.plants
 @pytest.mark.parametrize("part, plant", mistakes())
-def test_mistake(part: Part, plant: Plant, tmp_path: Path, request: pytest.FixtureRequest) -> None:
+def test_mistake(part, plant, tmp_path, request):
     folder = part.copied(tmp_path)
     put(plant, folder)
-    if "seen by" not in plant:
-        return
-    judge(part.fault(plant["seen by"], folder, tmp_path, request), plant.get("says", ""))
+    if "seen by" in plant:
+        judge(part.fault(plant["seen by"], folder, tmp_path, request), plant.get("says", ""))
 
 
 @pytest.mark.plants
 @pytest.mark.parametrize("part, test", controls())
-def test_without_a_mistake(part: Part, test: str, tmp_path: Path, request: pytest.FixtureRequest) -> None:
+def test_without_a_mistake(part, test, tmp_path, request):
     assert part.fault(test, part.copied(tmp_path), tmp_path, request) is None
 
 
@@ -273,7 +239,7 @@ def test_without_a_mistake(part: Part, test: str, tmp_path: Path, request: pytes
     ("Command '['zhcount-desk']' timed out after 60 seconds", "", "waited in vain"),
     ("not after 15 seconds: a copy", "not after: an answer", "waited in vain"),
 ])
-def test_what_does_not_count(said: Optional[str], says: str, fault: str) -> None:
+def test_what_does_not_count(said, says, fault):
     with pytest.raises(AssertionError, match=fault):
         judge(said, says)
 
@@ -282,19 +248,19 @@ def test_what_does_not_count(said: Optional[str], says: str, fault: str) -> None
     ("'1 stored 2' is not '1 stored 1'", "is not '1 stored 1'"),
     ("not after 15 seconds: a copy", "not after: a copy"),
 ])
-def test_what_counts(said: str, says: str) -> None:
+def test_what_counts(said, says):
     judge(said, says)
 
 
-def test_kept_sums(tmp_path: Path, monkeypatch: pytest.MonkeyPatch) -> None:
-    """a part's sum is kept once all its mistakes were seen; then some in turn are tried until a file changes"""
+def test_kept_sums(tmp_path, monkeypatch):
+    """A part's sum is kept once all its mistakes were seen; then some in turn are tried until a file changes."""
     monkeypatch.setitem(globals(), "PASSED", tmp_path / "passed")
-    desks = next(it for it in PARTS if it.name == "desks")
+    desks, tried = PARTS[0], lambda: [it for it in mistakes() if it.id.startswith("desks-") and pytest.mark.slow not in it.marks]
     names = {f"tests/test_plants.py::test_mistake[desks-{it}]" for it in desks.plants()}
     keep_sums(set(sorted(names)[1:]))
     assert kept_sums() == {}
     keep_sums(names)
     assert kept_sums() == {"desks": desks.sum()}
-    assert 0 < sum(it.id.startswith("desks-") and pytest.mark.slow not in it.marks for it in mistakes()) <= IN_TURN
+    assert 0 < len(tried()) <= IN_TURN
     monkeypatch.setattr(Part, "sum", lambda part: "another")
-    assert sum(it.id.startswith("desks-") and pytest.mark.slow not in it.marks for it in mistakes()) == len(names)
+    assert len(tried()) == len(names)

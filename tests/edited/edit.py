@@ -2,10 +2,7 @@
 perhaps a line `# refused at: FUNCTION`, which names a caller in the same crate whose contract refuses it. It is a file of
 crates/CRATE/must-fail, or an entry of tests/wrong_bodies/CRATE.edits."""
 import re
-from dataclasses import dataclass
 from functools import cached_property
-from pathlib import Path
-from typing import List
 
 from edited.entries import entries_of
 from edited.functions import functions_of
@@ -15,11 +12,9 @@ class NoLongerApplies(Exception):
     pass
 
 
-@dataclass
 class Edit:
-    name: str
-    crate: Path
-    text: str
+    def __init__(self, name, crate, text):
+        self.name, self.crate, self.text = name, crate, text
 
     def callers(self):
         """The functions that the edit's lines '# refused at' name, as `row_sums` or `Office::store`."""
@@ -36,17 +31,17 @@ class Edit:
     @cached_property
     def changes(self):
         """The file, the old text and the new one of each change."""
-        file, old, found = "", None, []
-        for line in self.text.split("\n"):
-            if line.startswith("file: "):
-                file = line[6:].strip()
-            elif line.startswith("old: "):
-                old = line[5:]
-            elif line.startswith("new:"):
-                if not file or not old:
-                    raise NoLongerApplies("a 'new:' stands before any 'file:' or 'old:'")
-                found.append((file, old, line[5:] if line.startswith("new: ") else line[4:]))
-                old = None
+        file, old, found = "", "", []
+        for key, text in re.findall(r"(?m)^(file|old|new): ?(.*)", self.text):
+            if key == "file":
+                file = text.strip()
+            elif key == "old":
+                old = text
+            elif not file or not old:
+                raise NoLongerApplies("a 'new:' stands before any 'file:' or 'old:'")
+            else:
+                found.append((file, old, text))
+                old = ""
         if not found:
             raise NoLongerApplies("it has no 'old:' and 'new:'")
         return found
@@ -89,12 +84,11 @@ class Edit:
         return bool(self.callers()) or not all(is_in_body for _, is_in_body in self.places)
 
 
-def edits_of(top: Path, crate: str) -> List[Edit]:
+def edits_of(top, crate):
     """The wrong bodies of a crate, in both places."""
     folder, others = top / "crates" / crate, top / "tests/wrong_bodies" / f"{crate}.edits"
+    found = entries_of(others) if others.is_file() else {}
     gravest = {it.stem: it.read_text(encoding="utf-8") for it in sorted((folder / "must-fail").glob("*.edit"))}
-    found = {**gravest, **(entries_of(others) if others.is_file() else {})}
-    twice = [name for name, text in gravest.items() if found[name] is not text]
-    if twice:
-        raise ValueError(f"{others} has an entry of the name of {folder}/must-fail/{twice[0]}.edit")
-    return [Edit(name, folder, text) for name, text in found.items()]
+    for name in gravest.keys() & found.keys():
+        raise ValueError(f"{others} has an entry of the name of {folder}/must-fail/{name}.edit")
+    return [Edit(name, folder, text) for name, text in {**gravest, **found}.items()]

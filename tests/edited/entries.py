@@ -1,15 +1,13 @@
 """Files of mistakes, `NAME.edits`: entries with a blank line between them. The first line of each is `name: NAME`, the others are its
 text."""
 import re
-from pathlib import Path
-from typing import Dict
 
 ENTRY = re.compile(r"name: (\S+)\n((?:.+\n)+)")
 
 
-def entries_of(path: Path) -> Dict[str, str]:
+def entries_of(path):
     """The text of each entry of a file, by its name. A text ends with a line feed."""
-    found: Dict[str, str] = {}
+    found = {}
     for block in re.split(r"(?<=\n)\n", path.read_text(encoding="utf-8")):
         entry = ENTRY.fullmatch(block)
         if not entry:

@@ -1,28 +1,20 @@
 """Where the functions of a source file stand, by its layout: a body ends at the first `}` that is indented as its `fn`."""
 import re
-from dataclasses import dataclass
+from collections import namedtuple
 
 HEAD = re.compile(r'( *)(?:pub(?:\([a-z]+\))? )?(?:(?:final|const|unsafe|ghost|extern "C") )*fn (\w+)')
 BLOCK = re.compile(r"( *)(?:unsafe )?(impl|trait|pub trait|pub\(crate\) trait)\b(.*)")
 CLAUSE = re.compile(r" *(requires|ensures|ghost|decreases)\b")
 
 
-@dataclass(frozen=True)
-class Function:
-    file: str
-    name: str
-    # the type of its impl, as `Totals`, and the trait, if it has these
-    of: str
-    trait: str
-    # lines, from 1: of `fn`, of the first after the contract, and of the end
-    start: int
-    body: int
-    end: int
+class Function(namedtuple("Function", "file name of trait start body end")):
+    """A function, with the type of its impl, as `Totals`, and the trait, if it has these; and its lines, from 1: of `fn`, of the first
+    after the contract, and of the end."""
 
     @property
     def module(self):
         """The path of its module in the crate, which is empty at the crate's root."""
-        path = self.file.removeprefix("src/").removesuffix(".rt").replace("/", "::")
+        path = re.sub(r"^src/|\.rt$", "", self.file).replace("/", "::")
         return "" if path in ("lib", "main") else path
 
     @property

@@ -5,6 +5,7 @@ rattle/logic/antt-project.json are; `rattle check` takes the words below, which 
 library as out/rlib/NAME.rlib. How the prover words what it refuses is read in report.py alone.
 """
 import os
+import re
 import shutil
 import subprocess
 import threading
@@ -16,6 +17,7 @@ from edited.tree import PARTS
 # (so that a check that does not end is noticed; a busy machine may take five times as long as a quiet one)
 SECONDS = 90 * 60
 KILLED = -9
+SAID = {"stdin": subprocess.DEVNULL, "stdout": subprocess.PIPE, "stderr": subprocess.STDOUT, "text": True, "errors": "replace"}
 
 
 class Prover:
@@ -27,16 +29,16 @@ class Prover:
     def words(self, crate):
         """The arguments of a check of the crate in the current folder, over the libraries that are built."""
         root = "src/main.rt" if (self.tree.folder(crate) / "src/main.rt").is_file() else "src/lib.rt"
+        libraries = {name: f"{self.kit}/rlibs/{name}.rlib" for name in ["std", *self.tree.of_kit(crate)]}
+        libraries.update((name, self.tree.library(name)) for name in self.tree.uses[crate])
+        folders = [f"{self.kit}/rlibs", *(self.tree.library(name).parent for name in self.tree.below(crate))]
         words = ["--crate-name", crate, root]
-        for name in ["std", *self.tree.of_kit(crate)]:
-            words += ["--extern", f"{name}={self.kit}/rlibs/{name}.rlib"]
-        words += ["-L", f"dependency={self.kit}/rlibs"]
-        for name in self.tree.uses[crate]:
-            words += ["--extern", f"{name}={self.tree.library(name)}"]
-        for name in self.tree.below(crate):
-            words += ["-L", f"dependency={self.tree.library(name).parent}"]
-        words += ["--antt-project", f"{self.kit}/rattle/logic/antt-project.json", "--logic-built", f"{self.kit}/logic_built"]
-        return [*words, "--links", f"{crate}="]
+        for name, library in libraries.items():
+            words += ["--extern", f"{name}={library}"]
+        for folder in folders:
+            words += ["-L", f"dependency={folder}"]
+        return [*words, "--antt-project", f"{self.kit}/rattle/logic/antt-project.json", "--logic-built", f"{self.kit}/logic_built",
+                "--links", f"{crate}="]
 
     def check(self, crate, texts, kept, jobs=1, only=()):
         """The report on the crate with these texts in place of its own, over the work in the folder `kept`, which the check adds to. It
@@ -49,8 +51,7 @@ class Prover:
             (room / file).write_text(text, encoding="utf-8")
         try:
             words = [self.kit / "bin/rattle", "check", *self.words(crate), *(["--incremental", kept] if kept.is_dir() else [])]
-            for it in only:
-                words += ["--only", it.path]
+            words += [word for it in only for word in ("--only", it.path)]
             with self.turns:
                 said, status = self.call([*words, "--jobs", str(jobs)], room)
                 if status == KILLED and not self.is_stopped:
@@ -64,8 +65,7 @@ class Prover:
         """What a command says in this folder, and its status."""
         if self.is_stopped:
             return "rattle: no verdict, since the run was ended", KILLED
-        with subprocess.Popen(words, cwd=folder, stdin=subprocess.DEVNULL, stdout=subprocess.PIPE, stderr=subprocess.STDOUT, text=True,
-                              errors="replace") as ran:
+        with subprocess.Popen(words, cwd=folder, **SAID) as ran:
             self.running.add(ran)
             try:
                 return ran.communicate(timeout=SECONDS)[0], ran.returncode
@@ -111,8 +111,7 @@ def build_libraries(tree, crates, jobs, say):
             continue
         say(f"{name}: building the library")
         before = tree.library_sum(name)
-        ran = subprocess.run(["rt", "lib", "--jobs", str(jobs)], cwd=tree.folder(name), stdin=subprocess.DEVNULL, stdout=subprocess.PIPE,
-                             stderr=subprocess.STDOUT, text=True, errors="replace")
+        ran = subprocess.run(["rt", "lib", "--jobs", str(jobs)], cwd=tree.folder(name), **SAID)
         if ran.returncode or tree.library_sum(name) != before:
             say("\n".join([f"{name}: the library was not built", *ran.stdout.split("\n")[-20:]]))
             return False
@@ -122,23 +121,17 @@ def build_libraries(tree, crates, jobs, say):
 
 def processors():
     """The processors that the process may use, by its group's quota too."""
-    found = len(os.sched_getaffinity(0))
-    quota = read_numbers("/sys/fs/cgroup/cpu.max")
+    found, quota = len(os.sched_getaffinity(0)), numbers_in("/sys/fs/cgroup/cpu.max")
     return max(1, min(found, quota[0] // quota[1])) if len(quota) == 2 else found
 
 
 def free_memory():
     """The bytes that are free, under the group's limit too."""
-    with open("/proc/meminfo", encoding="utf-8") as file:
-        free = next(int(line.split()[1]) * 1024 for line in file if line.startswith("MemAvailable"))
-    most, held = read_numbers("/sys/fs/cgroup/memory.max"), read_numbers("/sys/fs/cgroup/memory.stat")
+    free = 1024 * int(re.search(r"MemAvailable: +(\d+)", Path("/proc/meminfo").read_text())[1])
+    most, held = numbers_in("/sys/fs/cgroup/memory.max"), numbers_in("/sys/fs/cgroup/memory.stat")
     # (its first number is what cannot be given back)
     return min(free, most[0] - held[0]) if most and held else free
 
 
-def read_numbers(path):
-    try:
-        with open(path, encoding="utf-8") as file:
-            return [int(it) for it in file.read().split() if it.isdigit()]
-    except OSError:
-        return []
+def numbers_in(path):
+    return [int(it) for it in Path(path).read_text().split() if it.isdigit()] if os.path.exists(path) else []

@@ -6,12 +6,11 @@ open and `it calls` those functions that are not proved; `note: FILE:LINE:COLUMN
 refused at a goal of its own.
 """
 import re
-from dataclasses import dataclass, field
 
 PLACE = r"(?:\./)?(?P<file>(?:src|specs|proofs)/\S+?):(?P<line>\d+):\d+: "
-VERDICT = re.compile(r"fn (\S+): (proved|not proved|no proof|could not tell)(.*)")
-OPEN = re.compile(rf"note: {PLACE}it is not proved that .*")
-ERROR = re.compile(rf"{PLACE}error: (?P<said>.*)")
+VERDICT = re.compile(r"^fn (\S+): (proved|not proved|no proof|could not tell)(.*)", re.M)
+OPEN = re.compile(rf"^note: {PLACE}it is not proved that .*", re.M)
+ERROR = re.compile(rf"^{PLACE}error: (?P<said>.*)", re.M)
 # (a name that the proof cites and that is gone, or what cites such a proof)
 GONE = re.compile(r"has no field|is not in scope|has no `|is no name|was not admitted|not admitted")
 GONE_GOAL = re.compile(r"`goal\.([^`]+)`")
@@ -22,33 +21,22 @@ def kind_of(goal):
     return re.split(r"[-_]", goal)[0]
 
 
-@dataclass
 class Report:
-    """A check's words, read."""
+    """A check's words, read: by the name of a function its verdict and what follows it; file, line, goals and words of each open goal;
+    file and words of each error."""
 
-    text: str
-    status: int
-    verdicts: dict = field(default_factory=dict)
-    # file, line, goals and words of each open goal; file and words of each error
-    open_goals: list = field(default_factory=list)
-    errors: list = field(default_factory=list)
-
-    def __post_init__(self):
-        for line in self.text.split("\n"):
-            verdict, goal, error = VERDICT.match(line), OPEN.match(line), ERROR.match(line)
-            if verdict:
-                self.verdicts[verdict[1]] = (verdict[2], verdict[3])
-            elif goal:
-                self.open_goals.append((goal["file"], int(goal["line"]), re.findall(r"\(`([^`]+)`\)", line), line))
-            elif error:
-                self.errors.append((error["file"], error["said"]))
+    def __init__(self, text, status):
+        self.text, self.status = text, status
+        self.verdicts = {it[1]: (it[2], it[3]) for it in VERDICT.finditer(text)}
+        self.open_goals = [(it["file"], int(it["line"]), re.findall(r"\(`([^`]+)`\)", it[0]), it[0]) for it in OPEN.finditer(text)]
+        self.errors = [(it["file"], it["said"]) for it in ERROR.finditer(text)]
 
     @property
     def has_verdicts(self):
         """Whether the prover was asked: a text that does not compile, or that can't be read, has none."""
         cannot_be_read = any(file.startswith(("src/", "specs/")) for file, _ in self.errors)
-        is_whole = re.search(r"\n(logic=not-proved|only=\d+ proved=)", self.text)
-        return bool(self.verdicts) and not cannot_be_read and (self.status in (0, 3) or is_whole is not None)
+        is_whole = self.status in (0, 3) or re.search(r"\n(logic=not-proved|only=\d+ proved=)", self.text)
+        return bool(self.verdicts and is_whole and not cannot_be_read)
 
     @property
     def first_error(self):
@@ -74,12 +62,13 @@ class Report:
         folders = tuple(f"proofs/{'/'.join(it.split('::')[1:])}/" for it in names)
         return [said for file, said in self.errors if file.startswith(folders)]
 
-    def breaks_at_a_goal(self, names, spans):
-        """Whether a goal of one of these functions is refused, and what was said: `spans` are a file and the lines from and to."""
+    def breaks_at_a_goal(self, names, functions):
+        """Whether a goal of one of these functions, which have these names here, is refused, and what was said."""
         own = self.errors_of(names)
         gone = {kind_of(it) for said in own if GONE.search(said) for it in GONE_GOAL.findall(said)}
         answers = [said for said in own if not GONE.search(said)]
-        opened = [(goals, said) for file, line, goals, said in self.open_goals for it in spans if it[0] == file and it[1] <= line <= it[2]]
+        opened = [(goals, said) for file, line, goals, said in self.open_goals for it in functions
+                  if it.file == file and it.start <= line <= it.end]
         for name in names:
             goals = re.findall(r"`([^`]+)`", self.verdicts[name][1].partition("did not prove ")[2].partition(";")[0])
             opened += [(goals, f"{name}: open: {', '.join(goals)}")] if goals else []

@@ -15,14 +15,18 @@ COMMENT = re.compile(r"(?m)^[ \t]*(?://|--).*\n")
 MOST_OF_A_CRATE = 6
 
 
+def sum_of(text):
+    return hashlib.sha256(text.encode()).hexdigest()
+
+
+def words_in(path):
+    return path.read_text(encoding="utf-8").split() if path.is_file() else []
+
+
 class Tree:
     def __init__(self, top):
-        self.top = Path(top)
-        self.named = {}
-        for line in (self.top / "crates.txt").read_text(encoding="utf-8").split("\n"):
-            head, colon, deps = line.partition("#")[0].partition(":")
-            if colon:
-                self.named[head.split()[0]] = deps.split()
+        self.top, lines = Path(top), (Path(top) / "crates.txt").read_text(encoding="utf-8")
+        self.named = {name: deps.split() for name, deps in re.findall(r"(?m)^\s*(\w+)[^:#\n]*:([^#\n]*)", lines)}
         self.uses = {name: [it for it in deps if it in self.named] for name, deps in self.named.items()}
 
     def of_kit(self, crate):
@@ -84,22 +88,20 @@ class Tree:
         for crate in crates:
             edits = sorted((f"{it.name}.edit", it.text) for it in self.edits(crate))
             below = [(it, stated[it]) for it in self.below(crate)]
-            whole = (self.logic, self.named[crate], self.without_comments(crate, *PARTS), edits, below)
-            found[crate] = hashlib.sha256(repr(whole).encode()).hexdigest()[:32]
+            found[crate] = sum_of(repr((self.logic, self.named[crate], self.without_comments(crate, *PARTS), edits, below)))[:32]
         return found
 
     def sum_of_rest(self, crate):
         """The sum of all that a wrong body of the crate is refused for, but the wrong body itself."""
-        whole = (self.logic, self.named[crate], self.without_comments(crate, *PARTS), [(it, self.stated(it)) for it in self.below(crate)])
-        return hashlib.sha256(repr(whole).encode()).hexdigest()[:32]
+        below = [(it, self.stated(it)) for it in self.below(crate)]
+        return sum_of(repr((self.logic, self.named[crate], self.without_comments(crate, *PARTS), below)))[:32]
 
     def library(self, crate):
         return self.folder(crate) / f"out/rlib/{crate}.rlib"
 
     def library_sum(self, crate):
         """The sum of all that a crate's library is made from."""
-        whole = [self.logic, *((it, self.named[it], self.files(it, *PARTS)) for it in [*self.below(crate), crate])]
-        return hashlib.sha256(repr(whole).encode()).hexdigest()
+        return sum_of(repr([self.logic, *((it, self.named[it], self.files(it, *PARTS)) for it in [*self.below(crate), crate])]))
 
     def note_of(self, crate):
         # (the toolchain removes the folder before it makes the library anew)
@@ -110,20 +112,26 @@ class Tree:
         self.note_of(crate).write_text(self.library_sum(crate) + "\n", encoding="utf-8")
 
     def is_noted(self, crate):
-        note = self.note_of(crate)
-        return note.is_file() and note.read_text(encoding="utf-8").strip() == self.library_sum(crate)
+        return words_in(self.note_of(crate)) == [self.library_sum(crate)]
 
     def whole_sum(self):
         """The sum of the sources of all crates."""
-        return hashlib.sha256(repr([(it, self.files(it, *PARTS)) for it in self.named]).encode()).hexdigest()
+        return sum_of(repr([(it, self.files(it, *PARTS)) for it in self.named]))
 
     def commits(self):
         """How many there are, none where there is no history."""
-        try:
-            words = ["git", "rev-list", "--count", "HEAD"]
-            return int(subprocess.run(words, cwd=self.top, stdout=subprocess.PIPE, stderr=subprocess.DEVNULL, check=True).stdout)
-        except (OSError, subprocess.CalledProcessError):
-            return 0
+        counted = subprocess.run(["git", "rev-list", "--count", "HEAD"], cwd=self.top, capture_output=True, text=True)
+        return int(counted.stdout or 0)
+
+    def in_turn(self):
+        """The crate whose turn it is, one at each commit; None where no crate has wrong bodies."""
+        return self.with_edits[self.commits() % len(self.with_edits)] if self.with_edits else None
+
+    def share(self, crate):
+        """A crate's wrong bodies, or of more than MOST_OF_A_CRATE a part, another one each time that the crate has its turn."""
+        edits, turn = self.edits(crate), self.commits() // len(self.with_edits)
+        parts = -(-len(edits) // MOST_OF_A_CRATE)
+        return edits[turn % parts :: parts]
 
 
 class Passed:
@@ -133,8 +141,8 @@ class Passed:
         self.tree, self.path = tree, tree.top / "tests/edits.passed"
 
     def read(self):
-        lines = self.path.read_text(encoding="utf-8").split("\n") if self.path.is_file() else []
-        return dict(line.split() for line in lines if len(line.split()) == 2)
+        words = words_in(self.path)
+        return dict(zip(words[::2], words[1::2]))
 
     def differing(self):
         kept, sums = self.read(), self.tree.sums(self.tree.with_edits)
@@ -155,26 +163,13 @@ class Refused:
         self.rest = tree.sum_of_rest(crate)
 
     def sum(self, edit):
-        return hashlib.sha256((self.rest + edit.text).encode()).hexdigest()[:32]
+        return sum_of(self.rest + edit.text)[:32]
 
     def read(self):
-        return set(self.path.read_text(encoding="utf-8").split()) if self.path.is_file() else set()
+        return set(words_in(self.path))
 
     def keep(self, edits):
         """Keeps that these were refused, unless the sources changed meanwhile."""
         if edits and self.tree.sum_of_rest(self.crate) == self.rest:
-            kept = sorted(self.read().union(map(self.sum, edits)))
             self.path.parent.mkdir(exist_ok=True)
-            self.path.write_text("".join(f"{it}\n" for it in kept), encoding="utf-8")
-
-
-def in_turn(tree):
-    """The crate whose turn it is, one at each commit; None where no crate has wrong bodies."""
-    return tree.with_edits[tree.commits() % len(tree.with_edits)] if tree.with_edits else None
-
-
-def share(tree, crate):
-    """A crate's wrong bodies, or of more than MOST_OF_A_CRATE a part, another one each time that the crate has its turn."""
-    edits, turn = tree.edits(crate), tree.commits() // len(tree.with_edits)
-    parts = -(-len(edits) // MOST_OF_A_CRATE)
-    return edits[turn % parts :: parts]
+            self.path.write_text("".join(f"{it}\n" for it in sorted(self.read().union(map(self.sum, edits)))), encoding="utf-8")

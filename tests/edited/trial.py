@@ -2,8 +2,7 @@
 import shutil
 import tempfile
 import time
-from concurrent.futures import FIRST_COMPLETED, ThreadPoolExecutor, wait
-from dataclasses import dataclass, field
+from concurrent.futures import ThreadPoolExecutor, as_completed
 from pathlib import Path
 
 from edited.edit import NoLongerApplies
@@ -18,15 +17,11 @@ UNKNOWN = "no verdict"
 FEW_CHECKS = 2
 
 
-@dataclass
 class Crate:
-    """What the wrong bodies of a crate came to."""
+    """So many wrong bodies of a crate, and what they came to: a kind and the prover's words for each."""
 
-    name: str
-    number: int
-    outcomes: dict = field(default_factory=dict)
-    checks: int = 0
-    seconds: int = 0
+    def __init__(self, name, number):
+        self.name, self.number, self.outcomes, self.checks, self.seconds = name, number, {}, 0, 0
 
     @property
     def refused(self):
@@ -37,13 +32,11 @@ class Crate:
         return self.refused == self.number
 
 
-@dataclass
 class Batch:
     """Edits of different functions, the names of these, and the texts after all."""
 
-    names: set = field(default_factory=set)
-    texts: dict = field(default_factory=dict)
-    edits: list = field(default_factory=list)
+    def __init__(self):
+        self.names, self.texts, self.edits = set(), {}, []
 
     def takes(self, edit):
         """Adds the edit, if it changes no function of the batch, nor one whose name the prover's words may not tell from it, and
@@ -75,7 +68,7 @@ def judged(report, crate, edit, is_alone):
     if not report.has_verdicts:
         return (GONE if report.status == 1 else UNKNOWN, report.first_error) if is_alone else None
     names = [name for it in edit.functions for name in report.named(crate, it)]
-    said = report.breaks_at_a_goal(names, [(it.file, it.start, it.end) for it in edit.functions])
+    said = report.breaks_at_a_goal(names, edit.functions)
     if said:
         return REFUSED, said
     if not is_alone:
@@ -86,10 +79,10 @@ def judged(report, crate, edit, is_alone):
         return UNKNOWN, report.first_error
     if report.lacks_names(names):
         return NAMES, report.first_error
-    refused = [name for name, (verdict, _) in report.verdicts.items() if verdict != "proved"]
+    refused = " ".join([name for name, (verdict, _) in report.verdicts.items() if verdict != "proved"][:4])
     if not edit.functions:
-        return ELSEWHERE, f"it changes no function; add '# refused at: FUNCTION' if one of these is meant: {' '.join(refused[:4])}"
-    return ELSEWHERE, " ".join(refused[:4])
+        return ELSEWHERE, f"it changes no function; add '# refused at: FUNCTION' if one of these is meant: {refused}"
+    return ELSEWHERE, refused
 
 
 def try_batch(prover, seed, crate, batch, number):
@@ -105,28 +98,20 @@ def try_batch(prover, seed, crate, batch, number):
 
 
 def try_batches(prover, seed, crate, batches, kept, say):
-    """Tries all edits in these batches, side by side, and those that did not come clear in smaller ones. It keeps which are refused."""
+    """Tries all edits in these batches, side by side, and then those that did not come clear in smaller ones. It keeps which are refused."""
     began = time.monotonic()
     with ThreadPoolExecutor(prover.lanes) as pool:
-        running = {}
-
-        def submit(batch):
-            running[pool.submit(try_batch, prover, seed, crate.name, batch, crate.checks)] = batch
-            crate.checks += 1
-
-        for batch in batches:
-            submit(batch)
-        while running:
-            for done in wait(running, return_when=FIRST_COMPLETED).done:
-                batch, found = running.pop(done), done.result()
-                crate.outcomes.update({edit.name: outcome for edit, outcome in zip(batch, found) if outcome})
-                kept.keep([edit for edit, outcome in zip(batch, found) if outcome and outcome[0] == REFUSED])
-                unclear = [edit for edit, outcome in zip(batch, found) if outcome is None]
-                half = (len(unclear) + 1) // 2
+        while batches:
+            running = {pool.submit(try_batch, prover, seed, crate.name, it, number): it for number, it in enumerate(batches, crate.checks)}
+            crate.checks, batches = crate.checks + len(batches), []
+            for done in as_completed(running):
+                found = list(zip(running[done], done.result()))
+                crate.outcomes.update({edit.name: outcome for edit, outcome in found if outcome})
+                kept.keep([edit for edit, outcome in found if outcome and outcome[0] == REFUSED])
+                unclear = [edit for edit, outcome in found if outcome is None]
                 # (where nothing came clear, fewer at a time)
-                for it in [unclear[:half], unclear[half:]] if len(unclear) == len(batch) else [unclear]:
-                    if it:
-                        submit(it)
+                half = (len(unclear) + 1) // 2 if len(unclear) == len(found) else len(unclear)
+                batches += [it for it in (unclear[:half], unclear[half:]) if it]
                 say(f"{crate.name}: {len(crate.outcomes)} of {crate.number} tried, after {round(time.monotonic() - began)} s")
 
 

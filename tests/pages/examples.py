@@ -28,8 +28,8 @@ from concurrent.futures import ThreadPoolExecutor
 from pathlib import Path
 
 from pages.markdown import blocks_of
+from places import PROGRAM
 
-BUILT = Path(__file__).resolve().parents[2] / "crates" / "zhcount" / "out" / "zhcount"
 LEFT_OUT = "tests/pages/left_out"
 GROUPS = [["README.md"], ["docs/MANUAL.md", "docs/CHECKING.md", "docs/de/CHECKING.md"], ["docs/FAQ.md"],
           ["docs/NIGHT.md"], ["docs/de/NIGHT.md"]]
@@ -41,29 +41,26 @@ TURN = re.compile(rf"(\d+ [a-z]+(?: \d+)*) {{2,}}({REPLY})(?: {{2,}}.*)?")
 SECONDS = 600  # of a page
 # What the shell itself says of a job that was killed.
 OF_A_JOB = re.compile(r"^bash: line \d+: +\d+ (Killed|Terminated).*\n", re.M)
-# Runs the command of each folder in turn, with its input, and keeps what it prints and its status; $? is that of the
-# command before. Of a script it keeps the status of its last command that failed; that of a wait is how a job ended,
-# which may be killed.
+# Runs the command of each folder in turn, with its input, and keeps what it prints and its status; $? is that of the command before.
 LOOP = r"""
 status=0
 for room; do
-    text=$(< "$room/command") failed=0
-    if [ -s "$room/kind" ]; then
-        trap 'at=$?; [[ $BASH_COMMAND == wait* ]] || failed=$at' ERR
-        eval "$text" < "$room/input" > "$room/output" 2>&1
-        trap - ERR
-        status=$failed
-    else
-        (exit "$status")
-        eval "$text" < "$room/input" > "$room/output" 2>&1
-        status=$?
-    fi
+    text=$(< "$room/command")
+    (exit "$status")
+    eval "$text" < "$room/input" > "$room/output" 2>&1
+    status=$?
     echo "$status" > "$room/status"
 done
 """
+# A script, whose status is that of its last command that failed; that of a wait is how a job ended, which may be killed.
+SCRIPT = """failed=0
+trap 'at=$?; [[ $BASH_COMMAND == wait* ]] || failed=$at' ERR
+%s
+trap - ERR
+(exit $failed)"""
 
 # A command of a block: what is typed to it, what it is to print, if that is shown, whether it may fail, and whether it is a script.
-Step = namedtuple("Step", "command typed shown may_fail is_script", defaults=(None, False, False))
+Step = namedtuple("Step", "command typed shown may_fail is_script", defaults=((), None, False, False))
 
 
 def step_of(text, next_text):
@@ -86,7 +83,7 @@ def steps_of(block, folder):
         return [Step("zhcount 2> /dev/null", [it[1] for it in turns], [it[2] for it in turns])]
     if block.file and "/" not in block.file:
         return [Step(f"(set -C; cat > {shlex.quote(str(folder / block.file))})", block.lines)]
-    return [Step(text, [], is_script=True)] if block.word in ("", "sh") else []
+    return [Step(text, is_script=True)] if block.word in ("", "sh") else []
 
 
 def meets(output, shown):
@@ -113,9 +110,9 @@ def run(steps, rooms, folder, environment, local):
     """Runs these steps in a shell of their own, each with a room."""
     for step, room in zip(steps, rooms):
         room.mkdir(parents=True)
-        (room / "command").write_text(step.command.replace("/usr/local", local) + "\n")
+        command = SCRIPT % step.command if step.is_script else step.command
+        (room / "command").write_text(command.replace("/usr/local", local) + "\n")
         (room / "input").write_text("".join(f"{line}\n" for line in step.typed))
-        (room / "kind").write_text("script" * step.is_script)
     words, none = ["bash", "--noprofile", "--norc", "-c", LOOP, "bash", *rooms], subprocess.DEVNULL
     shell = subprocess.Popen(words, cwd=folder, env=environment, stdin=none, stdout=none, stderr=none, start_new_session=True)
     with contextlib.suppress(subprocess.TimeoutExpired):
@@ -128,54 +125,49 @@ def run(steps, rooms, folder, environment, local):
 def run_page(tree, page, folder, environment, local="/usr/local"):
     """Runs the blocks of a page that are not left out. The faults."""
     blocks = [(it, steps_of(it, folder)) for it in blocks_of(tree.read(page)) if (page, it.first) not in left_out_of(tree)]
-    steps = [(f"{page}:{block.line}: {it.command}", it) for block, found in blocks for it in found]
+    places, steps = [block.line for block, found in blocks for _ in found], [it for _, found in blocks for it in found]
     rooms = [Path(environment["TMPDIR"], "rooms", page, str(number)) for number in range(len(steps))]
-    run([it for _, it in steps], rooms, folder, environment, local)
-    unread = [f"{page}:{it.line}: {it.first}: it is neither run nor left out for a reason" for it, found in blocks if not found]
-    found = [(command, fault_of(step, room, local)) for (command, step), room in zip(steps, rooms)]
-    return unread + [f"{command}\n{fault}".rstrip().replace("\n", "\n    ") for command, fault in found if fault]
+    run(steps, rooms, folder, environment, local)
+    yield from (f"{page}:{it.line}: {it.first}: it is neither run nor left out for a reason" for it, found in blocks if not found)
+    for line, step, room in zip(places, steps, rooms):
+        if fault := fault_of(step, room, local):
+            yield f"{page}:{line}: {step.command}\n{fault}".rstrip().replace("\n", "\n    ")
 
 
-def furnish(top, folder, program):
-    """Links to what is in the repository's top folder; the built program is this one."""
-    built = folder / "crates" / "zhcount" / "out"
-    built.mkdir(parents=True)
-    (built / "zhcount").symlink_to(program)
+def furnish(top, folder):
+    """Links to what is in the repository's top folder, and to the built program."""
+    (folder / "crates/zhcount/out").mkdir(parents=True)
+    (folder / "crates/zhcount/out/zhcount").symlink_to(PROGRAM)
     for inside in ("", "crates", "crates/zhcount", "crates/zhcount/out"):
         for it in (top / inside).glob("[!.]*"):
             if not os.path.lexists(folder / inside / it.name):
                 (folder / inside / it.name).symlink_to(it)
 
 
-def environment_of_a_reader(temporary):
-    """The environment without what a reader has not: an installed program, and what a make gives to another."""
-    path = ":".join(it for it in os.environ["PATH"].split(":") if not list(Path(it).glob("zhcount*")))
-    kept = {name: it for name, it in os.environ.items() if name not in ("ZHCOUNT", "MAKEFLAGS", "MAKELEVEL", "MFLAGS")}
-    return {**kept, "PATH": path, "LC_ALL": "C", "TMPDIR": str(temporary)}
-
-
-def run_group(tree, group, program):
+def run_group(tree, group):
+    """The faults of these pages. The environment is without what a reader has not: an installed program, and what a make gives to another."""
     with tempfile.TemporaryDirectory(prefix="documents-", ignore_cleanup_errors=True) as made:
         folder, temporary, local = places = [Path(made, name) for name in ("folder", "temporary", "local")]
         for it in places:
             it.mkdir()
-        environment = environment_of_a_reader(temporary)
+        path = ":".join(it for it in os.environ["PATH"].split(":") if not list(Path(it).glob("zhcount*")))
+        kept = {name: it for name, it in os.environ.items() if name not in ("ZHCOUNT", "MAKEFLAGS", "MAKELEVEL", "MFLAGS")}
+        environment = {**kept, "PATH": path, "LC_ALL": "C", "TMPDIR": str(temporary)}
         if group[0] not in WHERE_INSTALLED:
-            furnish(tree.top, folder, program)
+            furnish(tree.top, folder)
             return [fault for page in group for fault in run_page(tree, page, folder, environment)]
         words = [tree.top / "scripts/install", "", local]
-        subprocess.run(words, env={**os.environ, "ZHCOUNT": str(program)}, stdout=subprocess.DEVNULL, check=True)
-        return run_page(tree, group[0], folder, {**environment, "PATH": f"{local}/bin:{environment['PATH']}"}, str(local))
+        subprocess.run(words, env={**os.environ, "ZHCOUNT": str(PROGRAM)}, stdout=subprocess.DEVNULL, check=True)
+        return list(run_page(tree, group[0], folder, {**environment, "PATH": f"{local}/bin:{path}"}, str(local)))
 
 
 def examples(tree, pages=()):
     """What is not as these pages show it, or as any page does; the groups side by side."""
-    program = Path(os.environ.get("ZHCOUNT") or BUILT).resolve()
     groups = [it for it in GROUPS if not pages or not set(it).isdisjoint(pages)]
-    if not groups or not os.access(program, os.X_OK):
-        return [f"there is no program {program}, or no example to be run on {' '.join(pages)}"]
+    if not groups or not os.access(PROGRAM, os.X_OK):
+        return [f"there is no program {PROGRAM}, or no example to be run on {' '.join(pages)}"]
     with ThreadPoolExecutor() as pool:
-        return [fault for found in pool.map(lambda it: run_group(tree, it, program), groups) for fault in found]
+        return [fault for found in pool.map(lambda it: run_group(tree, it), groups) for fault in found]
 
 
 def left_out_of(tree):

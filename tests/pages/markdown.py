@@ -1,7 +1,6 @@
 """What the rules read in a page: its blocks, its prose, its sections, the rows of its tables, its links."""
 import re
 from collections import namedtuple
-from itertools import dropwhile, takewhile
 from textwrap import fill
 
 BLOCK = re.compile(r"^(?P<indent> *)```(?P<fence>.*)\n(?P<fenced>(?:.*\n)*?) *```.*|(?:(?<=\n\n)|\A)(?:    .*\n|\n(?=    ))+", re.M)
@@ -48,14 +47,6 @@ def sections_of(text):
             found.append(Section(len(heading[1]), heading[2].strip(), number, []))
         found[-1].lines.append(line)
     return found
-
-
-def part_of(text, title):
-    """The section of this title, and those below it."""
-    sections = dropwhile(lambda it: it.title != title, sections_of(text))
-    first = next(sections, Section(0, "", 0, []))
-    below = takewhile(lambda it: it.level > first.level, sections)
-    return "\n".join(line for it in [first, *below] for line in it.lines)
 
 
 def rows_of(section):

@@ -4,7 +4,7 @@ A word stands in backticks or in a block; an argument with its two dashes. A lim
 1,118,720, in the part 'Limits' of MANUAL, or anywhere in FORMATS."""
 import re
 
-from pages.markdown import code_of, part_of
+from pages.markdown import code_of
 
 FORMATS, MANUAL = "docs/FORMATS.md", "docs/MANUAL.md"
 
@@ -56,7 +56,7 @@ def said(tree):
 
 
 def limits(tree):
-    texts = {FORMATS: tree.read(FORMATS), MANUAL: part_of(tree.read(MANUAL), "Limits")}
+    texts = {FORMATS: tree.read(FORMATS), MANUAL: re.search(r"^## Limits\n(?:(?!## ).*\n)*", tree.read(MANUAL), re.M)[0]}
     owed = [(FORMATS, "a limit of a set-up", it) for it in found_in(tree, OF_SETUP, r"(?<![\w.])(?!1\b)\d+\b")]
     for page, crate, name in ((page, *it.split()) for page, names in LIMITS.items() for it in names.split(",")):
         text = "\n".join(text for *_, text in tree.files("src/**/*.rt", [crate]))
