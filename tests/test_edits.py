@@ -6,9 +6,9 @@ import subprocess
 import pytest
 
 from edited.entries import entries_of
+from edited.tree import MOST_OF_A_CRATE, Tree
 from places import TOP
 
-CHANGED = "crates that changed since their wrong bodies were tried"
 # Wrong bodies, each with its lines.
 REFUSED = {
     "zh_low/next.adds_two": ("old:     n + 1", "new:     n + 2"),
@@ -18,16 +18,15 @@ REFUSED = {
     "zh_high/after.is_of_the_half": ("old: next(n)", "new: next(n / 2)"),
 }
 PROVED = {"zh_low/at_most.always_zero": ("old: let most = n;", "new: let most = 0;")}
-GONE = {"zh_low/third.adds_one": ("old: let third = next(n);", "new: let third = n;")}
-OF_A_CALLER = {"zh_low/step_of_two": ("old: STEP: u64 = 1;", "new: STEP: u64 = 2;")}
 # Each kind beside those that are refused, and what is said of it.
 OTHERS = {
     "still proved": PROVED,
-    "no longer applies: src/lib.rt has an 'old:' text 0 times": GONE,
+    "no longer applies: src/lib.rt has an 'old:' text 0 times": {
+        "zh_low/third.adds_one": ("old: let third = next(n);", "new: let third = n;")},
     "no longer applies: there is no function stepping": {
         "zh_low/step_of_four": ("# refused at: stepping", "old: STEP: u64 = 1;", "new: STEP: u64 = 4;")},
     "no longer applies": {"zh_low/second.is_cut_off": ("old: let first = next(n);", "new: let first = next(n;")},
-    "refused only elsewhere: it changes no function": OF_A_CALLER,
+    "refused only elsewhere: it changes no function": {"zh_low/step_of_two": ("old: STEP: u64 = 1;", "new: STEP: u64 = 2;")},
     "refused only because a name in a proof is gone": {"zh_low/count.sum_is_called_total": (
         "old: let mut sum = 0;", "new: let mut total = 0;", "old: sum = next(place);", "new: total = next(place);", "old:     sum",
         "new:     total")},
@@ -41,25 +40,20 @@ class Small:
     def __init__(self, top, edits=(), of=TOP / "tests/edited/small"):
         # rt takes no source that no crate of this repository lists: there each file's name ends in .small.
         self.top = shutil.copytree(of, top, copy_function=lambda here, there: shutil.copy(here, there.removesuffix(".small")))
-        self.tool, self.low = TOP / "tests/edits", top / "crates/zh_low/src/lib.rt"
+        self.low = "crates/zh_low/src/lib.rt"
         self.put(edits)
 
     def put(self, edits):
         """Writes these wrong bodies into the files of their crates, in place of those of their names."""
         for name, lines in dict(edits).items():
             crate, name = name.split("/")
-            others = {**self.others(crate), name: "\n".join(["file: src/lib.rt", *lines, ""])}
-            self.file(crate).parent.mkdir(parents=True, exist_ok=True)
-            self.file(crate).write_text("\n".join(f"name: {it}\n{text}" for it, text in others.items()))
-
-    def file(self, crate):
-        return self.top / f"tests/wrong_bodies/{crate}.edits"
-
-    def others(self, crate):
-        return entries_of(self.file(crate)) if self.file(crate).exists() else {}
+            file = self.top / f"tests/wrong_bodies/{crate}.edits"
+            file.parent.mkdir(parents=True, exist_ok=True)
+            others = {**(entries_of(file) if file.exists() else {}), name: "\n".join(["file: src/lib.rt", *lines, ""])}
+            file.write_text("\n".join(f"name: {it}\n{text}" for it, text in others.items()))
 
     def run(self, *words):
-        ran = subprocess.run([self.tool, "--top", self.top, *words], stdin=subprocess.DEVNULL, stdout=subprocess.PIPE,
+        ran = subprocess.run([TOP / "tests/edits", "--top", self.top, *words], stdin=subprocess.DEVNULL, stdout=subprocess.PIPE,
                              stderr=subprocess.STDOUT, text=True)
         return ran.returncode, ran.stdout
 
@@ -70,38 +64,28 @@ class Small:
             assert text in said
 
     def differs(self, which):
-        self.says(0, f"{CHANGED}: {which}", words=["--differ"])
+        self.says(0, f"crates that changed since their wrong bodies were tried: {which}", words=["--differ"])
 
     def change(self, path, old, new):
         path = self.top / path
         assert old in path.read_text()
         path.write_text(path.read_text().replace(old, new))
 
-    def change_next(self):
-        """Other sources, to which the wrong bodies apply still."""
-        self.change(self.low, "    n + 1", "    1 + n")
-        self.put({"zh_low/next.adds_two": ("old:     1 + n", "new:     2 + n"),
-                  "zh_low/next.adds_nothing": ("old:     1 + n", "new:     0 + n")})
+    def put_in_must_fail(self, name, is_moved):
+        """Puts a wrong body of zh_low where rt ci tries it too, or alone."""
+        text = entries_of(self.top / "tests/wrong_bodies/zh_low.edits")[name]
+        file = self.top / f"crates/zh_low/must-fail/{name}.edit"
+        file.parent.mkdir(exist_ok=True)
+        file.write_text(text)
+        if is_moved:
+            self.change("tests/wrong_bodies/zh_low.edits", f"\nname: {name}\n{text}", "")
 
     def git(self, *words):
         subprocess.run(["git", "-c", "user.name=test", "-c", "user.email=test@test", *words], cwd=self.top, check=True, capture_output=True)
 
-    def commit(self, *words):
+    def commit(self):
         self.git("add", "-A")
-        self.git("commit", "-q", "--allow-empty", "-m", "a change", *words)
-
-    def add_crate(self, name):
-        (self.top / f"crates/{name}/src").mkdir(parents=True)
-        self.change("crates.txt", "zh_high: zh_low\n", f"zh_high: zh_low\n{name}:\n")
-        self.put({f"{name}/nothing": ()})
-
-    def spoil(self, folder, file, old, new):
-        """Has the tool in this folder, with a fault."""
-        folder.mkdir()
-        shutil.copy(self.tool, folder / "edits")
-        shutil.copytree(self.tool.parent / "edited", folder / "edited", ignore=shutil.ignore_patterns("small", "__pycache__"))
-        self.tool = folder / "edits"
-        self.change(folder / "edited" / file, old, new)
+        self.git("commit", "-q", "--allow-empty", "-m", "a change")
 
 
 @pytest.fixture(scope="module")
@@ -132,11 +116,9 @@ def test_libraries(tree):
 
 def test_nothing_changed(tree):
     """The one in turn is tried; in which place an edit stands makes no difference."""
-    gravest = tree.top / "crates/zh_low/must-fail/step_of_three.edit"
-    gravest.parent.mkdir()
-    gravest.write_text(tree.others("zh_low")["step_of_three"])
+    tree.put_in_must_fail("step_of_three", is_moved=False)
     tree.says(1, "has an entry of the name of", words=["--differ"])
-    tree.change("tests/wrong_bodies/zh_low.edits", f"\nname: step_of_three\n{gravest.read_text()}", "")
+    tree.put_in_must_fail("step_of_three", is_moved=True)
     tree.differs("none; in turn: zh_high (1 of 1)")
 
 
@@ -146,10 +128,7 @@ def test_gravest(tree):
     gravest.write_text("A list.\n\nzh_low/next.adds_two  it is not the next\nzh_low/step_of_three  it steps too far\n")
     tree.says(0, "none; in turn: zh_high (1 of 1); of the others the 2 gravest",
               "zh_low: 2 of 2 refused at a goal of their own, in 2 checks", words=[])
-    edit = tree.top / "crates/zh_low/must-fail/step_of_three.edit"
-    edit.parent.mkdir()
-    edit.write_text(tree.others("zh_low")["step_of_three"])
-    tree.change("tests/wrong_bodies/zh_low.edits", f"\nname: step_of_three\n{edit.read_text()}", "")
+    tree.put_in_must_fail("step_of_three", is_moved=True)
     tree.differs("none; in turn: zh_high (1 of 1); of the others the 1 gravest")
     gravest.write_text("zh_low/next.adds_three  it is not the next\n")
     tree.says(1, "names zh_low/next.adds_three, which is no wrong body", words=["--differ"])
@@ -178,24 +157,24 @@ def test_in_turn(tree):
 def test_many_changed(tree):
     """Six that changed are tried; seven are too many, which fails."""
     tree.change(tree.low, "    n + 1", "    1 + n")
-    for name in ("zh_5", "zh_4", "zh_3", "zh_2", "zh_1"):
-        tree.add_crate(name)
-    tree.differs("zh_low zh_1 zh_2 zh_3 zh_4 zh_5; in turn")
-    tree.add_crate("zh_0")
+    for name in ("zh_5", "zh_4", "zh_3", "zh_2", "zh_1", "zh_0"):
+        if name == "zh_0":
+            tree.differs("zh_low zh_1 zh_2 zh_3 zh_4 zh_5; in turn")
+        (tree.top / f"crates/{name}/src").mkdir(parents=True)
+        tree.change("crates.txt", "zh_high: zh_low\n", f"zh_high: zh_low\n{name}:\n")
+        tree.put({f"{name}/nothing": ()})
     tree.says(1, "7 crates owe a trial", 'make wrong-bodies CRATES="zh_low zh_0 zh_1 zh_2 zh_3 zh_4 zh_5"', words=["--differ"])
 
 
-def test_part_of_a_crate(tree, tmp_path):
-    """Of a crate with more wrong bodies than are tried at once half are tried in each turn."""
-    tree.spoil(tmp_path / "tool", "tree.py", "MOST_OF_A_CRATE = 6", "MOST_OF_A_CRATE = 3")
-    refused = tree.top / "crates/zh_low/out/refused"
-    refused.unlink()
-    tree.commit()
-    tree.says(0, "zh_low: 2 of 2 refused at a goal of their own", f"{CHANGED}: none; in turn: zh_low (2 of 4)", words=[])
-    tree.commit()
-    tree.commit()
-    tree.says(0, words=[])
-    assert len(refused.read_text().split()) == 4
+def test_part_of_a_crate(tree):
+    """Of a crate with more wrong bodies than are tried at once a part is tried in each turn, until all were."""
+    tree.put({f"zh_low/{it}": () for it in range(2 * MOST_OF_A_CRATE - 4)})
+    shares = []
+    for _ in ("one turn", "the next"):
+        shares.append([it.name for it in Tree(tree.top).share("zh_low")])
+        tree.commit()
+        tree.commit()
+    assert [len(it) for it in shares] == [MOST_OF_A_CRATE] * 2 and len({*shares[0], *shares[1]}) == 2 * MOST_OF_A_CRATE
 
 
 def test_others(tmp_path):
@@ -213,5 +192,7 @@ def test_rest(tree):
     tree.says(0, "0 passed, 0 failed", words=["--rest"])
     (tree.top / "tests/edits.passed").unlink()
     tree.says(0, "zh_low: 5 of 5 refused at a goal of their own, in 0 checks", words=["--rest", "zh_low"])
-    tree.change_next()
+    tree.change(tree.low, "    n + 1", "    1 + n")  # to which the wrong bodies apply still
+    for name, body in (("adds_two", "2 + n"), ("adds_nothing", "0 + n")):
+        tree.put({f"zh_low/next.{name}": ("old:     1 + n", f"new:     {body}")})
     tree.says(0, "zh_low: 5 of 5 refused at a goal of their own, in 4 checks", words=["--rest", "zh_low"])

@@ -66,7 +66,8 @@ def sh(top):
         (top / "crates" / crate / "src").mkdir(parents=True)
         (top / "crates" / crate / "src/lib.rt").write_text(f"text of {crate}\n")
     (top / "crates.txt").write_text("zh_low: thiserror\nzhcount: zh_low\nzh_bench: zhcount\n")
-    shutil.copytree(TOP / "scripts", top / "scripts")
+    for it in ("scripts", "tests/edited"):
+        shutil.copytree(TOP / it, top / it)
     shutil.copy(TOP / "Makefile", top)
     (top / "bin").mkdir()
     (top / "bin/rt").write_text(RT)

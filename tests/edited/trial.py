@@ -98,7 +98,7 @@ def try_batch(prover, seed, crate, batch, number):
 
 
 def try_batches(prover, seed, crate, batches, kept, say):
-    """Tries all edits in these batches, side by side, and then those that did not come clear in smaller ones. It keeps which are refused."""
+    """Tries the edits in these batches, side by side, and then those that did not come clear in smaller ones. Keeps which are refused."""
     began = time.monotonic()
     with ThreadPoolExecutor(prover.lanes) as pool:
         while batches:

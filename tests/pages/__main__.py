@@ -9,6 +9,7 @@
 """
 import sys
 from pathlib import Path
+from typing import Callable, Dict
 
 sys.dont_write_bytecode = True
 sys.path.insert(0, str(Path(__file__).resolve().parents[1]))
@@ -57,7 +58,7 @@ def reach(tree, *names):
     print(f"{len(clauses)} clauses, {len(reached)} of {len(tree.definitions)} definitions, {lines} lines")
 
 
-COMMANDS = {it.__name__: it for it in (rules, check, run, write, reach)}
+COMMANDS: Dict[str, Callable] = {it.__name__: it for it in (rules, check, run, write, reach)}
 
 if __name__ == "__main__":
     command, *words = sys.argv[1:] or [""]

@@ -145,7 +145,7 @@ def furnish(top, folder):
 
 
 def run_group(tree, group):
-    """The faults of these pages. The environment is without what a reader has not: an installed program, and what a make gives to another."""
+    """The faults of these pages, run without what a reader has not: an installed program, and what a make gives to another."""
     with tempfile.TemporaryDirectory(prefix="documents-", ignore_cleanup_errors=True) as made:
         folder, temporary, local = places = [Path(made, name) for name in ("folder", "temporary", "local")]
         for it in places:
