@@ -23,10 +23,6 @@ RULES = [
     Rule("names", "no two crates define one name", shape.names,
          [(SPEC, END, "pub record Office : Type 0 where\n"), ("crates/zh_journal/src/fault.rt", "pub enum AppendFault", "enum Planted")],
          ["Office is defined in zh_disk and zh_office", "AppendFault is not needed"]),
-    Rule("characters", "no line of a crate is longer than its limit", shape.characters,
-         [(SPEC, END, f"-- {'≡' * 138}\n")], [r"Planted\.antt:1 has 141 characters"]),
-    Rule("repeated", "clauses that say what another says are within their limit", shape.repeated,
-         [(SOURCE, END, "fn planted()\n    ensures planted { ⊥ }\n{\n}\n" * 3000)], [r"\d clauses stand", "3000 times planted { ⊥ }"]),
     Rule("unread", "no crate has destructors or macros of its own, or unsafe code", shape.unread,
          [(SOURCE, END, "impl<D: File + Drop>\n    Drop for HeldFile<D> {\n}\nuse std::prelude::Drop as Let;\n"
            "impl<D: File> Drop /* a file */ for HeldFile<D> {\n}\nimpl<const N: usize = { 1 }> Drop for Held<N> {\n}\n"

@@ -1,12 +1,10 @@
-"""The shape of the crates: names, the length of lines, clauses that are said again, and code that no clause sees."""
+"""The shape of the crates: names that two of them define, and code that no clause sees."""
 import re
-from collections import Counter
 
 TYPE = re.compile(r"^\s*pub (?:struct|enum|trait|type) (\w+)", re.M)
 NO_CODE = re.compile(r"""(?s)"(?:\\.|[^"\\])*"|b?'(?:\\.|[^'\\\n])'|//[^\n]*|/\*.*?\*/|#\[derive\([^)]*\)\]""")
 VARIANT = re.compile(r"\benum \w+\s*\{[^{}]*\}|\bBatchStep::Drop\b|\bsteps\.Drop\b")
 UNREAD = re.compile(r"\bmacro_rules\b|\bunsafe\b(?!\(no_mangle\)\])|(?:::|[^\s:+])\s*\bDrop\b")
-MOST_CHARACTERS, MOST_REPEATED = 140, 360
 # Names that two crates define, and why.
 TWICE = {
     "OpenFault": "each opening can end in ways of its own, and names them in its own type, which its module tells apart",
@@ -23,23 +21,6 @@ def names(tree):
     twice = {name: it for name, it in crates.items() if len(it) > 1}
     yield from (f"{name} is defined in {' and '.join(it)}" for name, it in twice.items() if name not in TWICE)
     yield from (f"the exception {name} is not needed any more" for name in TWICE if name not in twice)
-
-
-def characters(tree):
-    for _, path, text in [*tree.files("specs/**/*.antt"), *tree.files("src/**/*.rt")]:
-        for number, line in enumerate(text.splitlines(), 1):
-            if len(line) > MOST_CHARACTERS:
-                yield f"{path}:{number} has {len(line)} characters, and not at most {MOST_CHARACTERS}"
-
-
-def repeated(tree):
-    """Clauses that stand word for word on several functions. (A method of an `impl` has to repeat those of its trait.)"""
-    said = Counter(" ".join(f"{it.name} {{ {it.text} }}".split()) for it in tree.clauses if it.text and " for " not in it.function)
-    again = [(it, number) for it, number in said.most_common() if number > 1]
-    number = sum(number for _, number in again)
-    if number > MOST_REPEATED:
-        yield f"{number} clauses stand word for word elsewhere, and not at most {MOST_REPEATED}"
-        yield from (f"{number} times {it}" for it, number in again[:40])
 
 
 def unread(tree):
