@@ -80,7 +80,7 @@ def test_all_is_there_and_then_gone(tmp_path):
     for _ in ("first", "again"):
         said = make("install", f"PREFIX={tmp_path}")
         assert files_below(tmp_path) == wanted
-        assert ran("sha256sum", "page/index.html").stdout.split()[0] in said.splitlines()
+        assert ran("sha256sum", tmp_path / "share/zhcount/index.html").stdout.split()[0] in said.splitlines()
     assert filecmp.cmp(TOP / "page/index.html", tmp_path / "share/zhcount/index.html", shallow=False)
     for _ in ("first", "again"):
         make("uninstall", f"PREFIX={tmp_path}")
@@ -161,13 +161,12 @@ def test_the_man_page_has_each_task_answer_and_fault_of_the_pages(there):
 def test_a_man_page_is_whole(there, name):
     text = man(there, name)
     assert text.startswith(f'.TH {name.upper()} 1 "" "zhcount {VERSION}" "User Commands"\n')
-    parts = {"NAME", "SYNOPSIS", "DESCRIPTION", "EXIT STATUS", "EXAMPLES", "SEE ALSO"}
-    assert parts <= set(re.findall(r"^\.SH (.*)", text, re.M))
+    assert {"NAME", "SYNOPSIS", "DESCRIPTION", "EXIT STATUS", "EXAMPLES", "SEE ALSO"} <= set(re.findall(r"^\.SH (.*)", text, re.M))
     assert re.search(rf"^\.SH SYNOPSIS\n(?:\.\S+.*\n)*{name}\b", text, re.M)
     if shutil.which("man"):
+        words = ["man", "--warnings", "-E", "UTF-8", "-l", there / f"share/man/man1/{name}.1"]
         wide = {**os.environ, "MANWIDTH": "200"}  # a test's folder has a long name
-        words = "man --warnings -E UTF-8 -l".split()
-        assert ran(*words, there / f"share/man/man1/{name}.1", stdout=subprocess.DEVNULL, stderr=subprocess.PIPE, env=wide).stderr == ""
+        assert ran(*words, stdout=subprocess.DEVNULL, stderr=subprocess.PIPE, env=wide).stderr == ""
 
 
 def test_the_archive_has_what_is_installed_with_its_sums(archive, unpacked):
