@@ -29,7 +29,8 @@ class Prover:
     def words(self, crate):
         """The arguments of a check of the crate in the current folder, over the libraries that are built."""
         root = "src/main.rt" if (self.tree.folder(crate) / "src/main.rt").is_file() else "src/lib.rt"
-        libraries = {name: f"{self.kit}/rlibs/{name}.rlib" for name in ["std", *self.tree.of_kit(crate)]}
+        of_kit = ["std", *(it for it in self.tree.named[crate] if it not in self.tree.named)]
+        libraries = {name: f"{self.kit}/rlibs/{name}.rlib" for name in of_kit}
         libraries.update((name, self.tree.library(name)) for name in self.tree.uses[crate])
         folders = [f"{self.kit}/rlibs", *(self.tree.library(name).parent for name in self.tree.below(crate))]
         words = ["--crate-name", crate, root]
@@ -82,14 +83,12 @@ class Prover:
             ran.kill()
 
     def seed(self, crate, room, jobs):
-        """A folder with the work of a check of the crate as it stands, or None where it is not proved, and the report."""
+        """A folder with the work of a check of the crate as it stands, and the report."""
         seed, own = room / "seed", self.tree.folder(crate) / "out/incremental"
         if own.is_dir():
             shutil.copytree(own, seed)
-        else:
-            seed.mkdir()
-        report = self.check(crate, {}, seed, jobs)
-        return (seed, report) if report.status == 0 else (None, report)
+        seed.mkdir(exist_ok=True)
+        return seed, self.check(crate, {}, seed, jobs)
 
     def check_over(self, seed, crate, texts, number, only):
         """The report on the crate with these texts, over a copy of the seed; or without one on these functions alone, if it finds them."""

@@ -12,7 +12,7 @@ VERDICT = re.compile(r"^fn (\S+): (proved|not proved|no proof|could not tell)(.*
 OPEN = re.compile(rf"^note: {PLACE}it is not proved that .*", re.M)
 ERROR = re.compile(rf"^{PLACE}error: (?P<said>.*)", re.M)
 # (a name that the proof cites and that is gone, or what cites such a proof)
-GONE = re.compile(r"has no field|is not in scope|has no `|is no name|was not admitted|not admitted")
+GONE_NAME = re.compile(r"has no field|is not in scope|has no `|is no name|was not admitted|not admitted")
 GONE_GOAL = re.compile(r"`goal\.([^`]+)`")
 IS_FALSE = "allow values at which this goal is false"
 
@@ -65,8 +65,8 @@ class Report:
     def breaks_at_a_goal(self, names, functions):
         """Whether a goal of one of these functions, which have these names here, is refused, and what was said."""
         own = self.errors_of(names)
-        gone = {kind_of(it) for said in own if GONE.search(said) for it in GONE_GOAL.findall(said)}
-        answers = [said for said in own if not GONE.search(said)]
+        gone = {kind_of(it) for said in own if GONE_NAME.search(said) for it in GONE_GOAL.findall(said)}
+        answers = [said for said in own if not GONE_NAME.search(said)]
         opened = [(goals, said) for file, line, goals, said in self.open_goals for it in functions
                   if it.file == file and it.start <= line <= it.end]
         for name in names:
@@ -76,7 +76,3 @@ class Report:
             if IS_FALSE in said or not gone or any(kind_of(it) not in gone for it in goals):
                 return said
         return answers[0] if answers else None
-
-    def lacks_names(self, names):
-        """Whether these functions are refused because names in proofs are gone."""
-        return any(GONE.search(said) for said in self.errors_of(names))

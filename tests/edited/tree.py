@@ -29,9 +29,6 @@ class Tree:
         self.named = {name: deps.split() for name, deps in re.findall(r"(?m)^\s*(\w+)[^:#\n]*:([^#\n]*)", lines)}
         self.uses = {name: [it for it in deps if it in self.named] for name, deps in self.named.items()}
 
-    def of_kit(self, crate):
-        return [it for it in self.named[crate] if it not in self.named]
-
     def folder(self, crate):
         return self.top / "crates" / crate
 

@@ -6,6 +6,7 @@ from concurrent.futures import ThreadPoolExecutor, as_completed
 from pathlib import Path
 
 from edited.edit import NoLongerApplies
+from edited.report import GONE_NAME
 from edited.tree import Refused
 
 REFUSED = "refused"
@@ -77,7 +78,7 @@ def judged(report, crate, edit, is_alone):
         return PROVED, "the crate is proved with it"
     if any(report.verdicts[it][0] == "could not tell" for it in names):
         return UNKNOWN, report.first_error
-    if report.lacks_names(names):
+    if any(GONE_NAME.search(it) for it in report.errors_of(names)):
         return NAMES, report.first_error
     refused = " ".join([name for name, (verdict, _) in report.verdicts.items() if verdict != "proved"][:4])
     if not edit.functions:
@@ -116,10 +117,11 @@ def try_batches(prover, seed, crate, batches, kept, say):
 
 
 def try_crate(tree, prover, name, edits, folder, jobs, anew, say):
-    """Tries these wrong bodies of a crate, all anew or those that no run refused, in a folder that is there for that. Its first check
-    may take so many jobs."""
-    began, kept = time.monotonic(), Refused(tree, name)
-    crate, found, refused = Crate(name, len(edits)), [], set() if anew else kept.read()
+    """Tries these wrong bodies of a crate, all anew or those that no run refused, over a first check of it, which may take so many jobs.
+    Where they are few checks, and the library shows that the crate is proved, none is made: it takes as long as each of them does from
+    nothing."""
+    began, kept, room = time.monotonic(), Refused(tree, name), Path(tempfile.mkdtemp(prefix=f"{name}-", dir=folder))
+    crate, todo, refused = Crate(name, len(edits)), [], set() if anew else kept.read()
     for edit in edits:
         try:
             edit.applied({})
@@ -127,24 +129,17 @@ def try_crate(tree, prover, name, edits, folder, jobs, anew, say):
             if kept.sum(edit) in refused:
                 crate.outcomes[edit.name] = REFUSED, "by an earlier run"
             else:
-                found.append(edit)
+                todo.append(edit)
         except NoLongerApplies as why:
             crate.outcomes[edit.name] = GONE, str(why)
-    if found:
-        try_these(prover, crate, found, Path(tempfile.mkdtemp(prefix=f"{name}-", dir=folder)), jobs, kept, say)
+    batches, seed = batches_of(todo), room / "none"
+    if len(batches) > FEW_CHECKS or todo and not tree.is_noted(name):
+        seed, report = prover.seed(name, room, jobs)
+        crate.checks += 1
+        if report.status != 0:
+            crate.outcomes.update({it.name: (UNKNOWN, f"the crate itself is not proved: {report.first_error}") for it in todo})
+            batches = []
+    try_batches(prover, seed, crate, batches, kept, say)
+    shutil.rmtree(room)
     crate.seconds = round(time.monotonic() - began)
     return crate
-
-
-def try_these(prover, crate, edits, room, jobs, kept, say):
-    """Tries these wrong bodies of a crate over a first check of it, in this folder, which goes. Where they are few checks, and the
-    library shows that the crate is proved, none is made: it takes as long as each of them does from nothing."""
-    batches, seed, report = batches_of(edits), room / "none", None
-    if len(batches) > FEW_CHECKS or not prover.tree.is_noted(crate.name):
-        seed, report = prover.seed(crate.name, room, jobs)
-        crate.checks += 1
-    if seed:
-        try_batches(prover, seed, crate, batches, kept, say)
-    else:
-        crate.outcomes.update({it.name: (UNKNOWN, f"the crate itself is not proved: {report.first_error}") for it in edits})
-    shutil.rmtree(room)

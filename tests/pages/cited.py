@@ -106,22 +106,17 @@ def places(tree):
                     yield f"{page}:{number}: {name} does not stand in {path}"
 
 
-def leads(page, link, folder):
-    """Whether a link of a page leads to a file of the folder, and to a heading of it where it names one."""
-    target, _, anchor = link.partition("#")
-    path = Path(os.path.normpath(page.parent / target)) if target else page
-    is_here = path.is_relative_to(folder) and path.exists()
-    return is_here and (not anchor or path.suffix == ".md" and anchor in anchors_of(path.read_text(encoding="utf-8")))
-
-
 def lost_links(folder, patterns=("**/*.md", "**/*.html")):
-    """The links of the pages in a folder that do not lead to a place in it."""
+    """The links of the pages in a folder that do not lead to a file in it, or to a heading of that where they name one."""
     folder = Path(os.path.abspath(folder))
     pages = sorted(path for pattern in patterns for path in folder.glob(pattern))
     yield from [] if pages else [f"{folder} has no page"]
     for page in pages:
         for line, link in links_of(page.read_text(encoding="utf-8"), page.suffix == ".html"):
-            if not leads(page, link, folder):
+            target, _, anchor = link.partition("#")
+            path = Path(os.path.normpath(page.parent / target)) if target else page
+            is_there = path.exists() and folder in path.parents
+            if not is_there or anchor and anchor not in anchors_of(path.read_text(encoding="utf-8")):
                 yield f"{page.relative_to(folder)}:{line}: {link} leads nowhere"
 
 
@@ -132,7 +127,8 @@ def layers(tree):
         rows = [(line, *row.values()) for line, row in rows_of(section) if re.match("`zh", [*row.values()][0])]
         for line, crate, sentence, *_ in ((line, crate.strip("`"), *others) for line, crate, *others in rows):
             said.setdefault(section.title.lower(), []).append(crate)
-            if crate in tree.crates and not re.match(rf"{re.escape(sentence)}(?!\w)", head_of(tree, crate)):
+            root = "".join(text for name in ("lib", "main") for *_, text in tree.files(f"src/{name}.rt", [crate]))
+            if crate in tree.crates and not re.match(rf"{re.escape(sentence)}(?!\w)", " ".join(re.findall("(?m)^//! *(.*)", root))):
                 yield f"{ARCHITECTURE}:{line}: the root file of {crate} does not begin with '{sentence}'"
     for wanted, found in zip_longest(tree.layers.items(), said.items(), fillvalue=("end", [])):
         if wanted != found:
@@ -146,9 +142,3 @@ def trusted(tree):
     listed = set(re.findall(r"`(\w+)`", said[1])) if said else set()
     for it in sorted(used ^ listed):
         yield f"README.md: it trusts {it}, which no crate uses" if it in listed else f"README.md: it does not say that {it} is trusted"
-
-
-def head_of(tree, crate):
-    """What the root file of a crate says of it, in one line."""
-    texts = [text for name in ("lib", "main") for *_, text in tree.files(f"src/{name}.rt", [crate])]
-    return " ".join(it.strip() for it in re.findall("^//!(.*)", "".join(texts[:1]), re.M))

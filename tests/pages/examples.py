@@ -106,9 +106,13 @@ def fault_of(step, room, local):
     return f"its status is {status.strip()}, which the page does not show\n{output}" if status != "0\n" and not step.may_fail else ""
 
 
-def run(steps, rooms, folder, environment, local):
-    """Runs these steps in a shell of their own, each with a room."""
-    for step, room in zip(steps, rooms):
+def run_page(tree, page, folder, environment, local="/usr/local"):
+    """Runs the blocks of a page that are not left out, each step with a room, in one shell. The faults."""
+    blocks = [(it, steps_of(it, folder)) for it in blocks_of(tree.read(page)) if (page, it.first) not in left_out_of(tree)]
+    yield from (f"{page}:{it.line}: {it.first}: it is neither run nor left out for a reason" for it, found in blocks if not found)
+    steps = [(block.line, it) for block, found in blocks for it in found]
+    rooms = [Path(environment["TMPDIR"], "rooms", page, str(number)) for number in range(len(steps))]
+    for (_, step), room in zip(steps, rooms):
         room.mkdir(parents=True)
         command = SCRIPT % step.command if step.is_script else step.command
         (room / "command").write_text(command.replace("/usr/local", local) + "\n")
@@ -120,16 +124,7 @@ def run(steps, rooms, folder, environment, local):
     with contextlib.suppress(ProcessLookupError):
         os.killpg(shell.pid, signal.SIGKILL)
     shell.wait()
-
-
-def run_page(tree, page, folder, environment, local="/usr/local"):
-    """Runs the blocks of a page that are not left out. The faults."""
-    blocks = [(it, steps_of(it, folder)) for it in blocks_of(tree.read(page)) if (page, it.first) not in left_out_of(tree)]
-    places, steps = [block.line for block, found in blocks for _ in found], [it for _, found in blocks for it in found]
-    rooms = [Path(environment["TMPDIR"], "rooms", page, str(number)) for number in range(len(steps))]
-    run(steps, rooms, folder, environment, local)
-    yield from (f"{page}:{it.line}: {it.first}: it is neither run nor left out for a reason" for it, found in blocks if not found)
-    for line, step, room in zip(places, steps, rooms):
+    for (line, step), room in zip(steps, rooms):
         if fault := fault_of(step, room, local):
             yield f"{page}:{line}: {step.command}\n{fault}".rstrip().replace("\n", "\n    ")
 
