@@ -5,13 +5,13 @@ from itertools import zip_longest
 from pathlib import Path
 
 from pages.markdown import anchors_of, links_of, prose_of, rows_of, sections_of
-from pages.shape import TYPE
 
 PROVED, ARCHITECTURE = "docs/PROVED.md", "docs/ARCHITECTURE.md"
 FUNCTION = re.compile(r"`([^`]+)`(?:,? and |, )?")
 CLAUSE = re.compile(r"(\w+)(?: \([^)]*\))?(?:, | and |$)")
 FILE = re.compile(r"(crates|docs|tests|scripts|bench|examples|page|desks)(/[\w.*-]+)+")
 OF_CRATE = re.compile(r"(zh_\w+/)?(src|specs|proofs|data)(/\w+)+\.\w+")
+TYPE = re.compile(r"^\s*pub (?:struct|enum|trait|type) (\w+)", re.M)
 NAME = re.compile(r"[a-z0-9]+(_[a-z0-9]+)+|([A-Z][a-z0-9]+){2,}")
 LINKED = re.compile(r"\[`([\w:]+)`\]\(([^()\s#]+\.(?:rt|antt))\)")
 

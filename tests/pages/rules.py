@@ -1,9 +1,9 @@
 """The table of all that is held: each rule with a violation that it has to see, which is planted in a copy of the tree."""
 from collections import namedtuple
-from functools import partial
 from itertools import chain
 
-from pages import cited, examples, language, owed, shape, written
+from pages import cited, examples, language, owed, written
+from pages.unread import unread
 
 START, END = r"\A", r"\Z"
 # Files that a violation adds, and pages that it changes.
@@ -16,14 +16,11 @@ FAQ, GERMAN, PROVED = "docs/FAQ.md", "docs/de/NIGHT.md", "docs/PROVED.md"
 Rule = namedtuple("Rule", "name asks faults changes seen")
 
 RULES = [
-    # The shape of the crates.
+    # The crates.
     Rule("reached", "a clause, law or ghost field of a source reaches each definition",
          lambda tree: [f"no clause reaches {key}" for key in tree.unreached()],
          [(SPEC, END, "abbrev pub planted : ℕ\nplanted = 1\n")], [r"no clause reaches zh_disk\.specs\.Planted\.planted"]),
-    Rule("names", "no two crates define one name", shape.names,
-         [(SPEC, END, "pub record Office : Type 0 where\n"), ("crates/zh_journal/src/fault.rt", "pub enum AppendFault", "enum Planted")],
-         ["Office is defined in zh_disk and zh_office", "AppendFault is not needed"]),
-    Rule("unread", "no crate has destructors or macros of its own, or unsafe code", shape.unread,
+    Rule("unread", "no crate has destructors or macros of its own, or unsafe code", unread,
          [(SOURCE, END, "impl<D: File + Drop>\n    Drop for HeldFile<D> {\n}\nuse std::prelude::Drop as Let;\n"
            "impl<D: File> Drop /* a file */ for HeldFile<D> {\n}\nimpl<const N: usize = { 1 }> Drop for Held<N> {\n}\n"
            "const A: &str = \"//\"; impl Drop for Held {\n}\nmacro_rules! let_go {\n    ($t:ty) => {}\n}\n// unsafe\n"
@@ -53,15 +50,12 @@ RULES = [
     Rule("trusted", "README names the libraries of the kit that are trusted, which are those that crates use", cited.trusted,
          [("crates.txt", END, "zh_planted: zh_disk libc\n"), ("README.md", "`hex` in", "`planted` in")],
          ["does not say that libc is trusted", "does not say that hex is trusted", "trusts planted, which no crate uses"]),
-    # What is written into the pages.
-    Rule("headline", "DEFINITIONS lists what the headline reaches", partial(written.differences, written.definitions),
-         [("docs/DEFINITIONS.md", r"^- \[`zh_", "- [`planted")], [r"DEFINITIONS.md:\d+: .* writes '- \[`zh_"]),
-    Rule("theorem", "PROVED quotes the record `Headline`", partial(written.differences, written.theorem),
-         [(PROVED, "(?<=### What `Headline` says\n\n)", "- planted\n")], [r"PROVED.md:\d+: .* writes '```text"]),
-    Rule("numbers", "PROVED counts the evidence", partial(written.differences, written.numbers),
-         [(SPEC, END, "abbrev pub planted : ℕ\n")], [r"writes '\| definitions \| "]),
-    Rule("drawing", "docs/layers.svg draws the layers of crates.txt", partial(written.differences, written.layers),
-         [("docs/layers.svg", ">text, office<", ">planted<")], [r"layers.svg:\d+: .*>text, office<"]),
+    Rule("written", "DEFINITIONS lists what the headline reaches, PROVED quotes it and counts the evidence, layers.svg draws the layers",
+         written.differences,
+         [("docs/DEFINITIONS.md", r"^- \[`zh_", "- [`planted"), (PROVED, "(?<=### What `Headline` says\n\n)", "- planted\n"),
+          (SPEC, END, "abbrev pub planted : ℕ\n"), ("docs/layers.svg", ">text, office<", ">planted<")],
+         [r"DEFINITIONS.md:\d+: .* writes '- \[`zh_", r"PROVED.md:\d+: .* writes '```text", r"writes '\| definitions \| ",
+          r"layers.svg:\d+: .*>text, office<"]),
     # What the pages owe.
     Rule("said", "FORMATS and MANUAL say each reply, refusal, fault, task, table, argument and key", owed.said,
          [(SPECS, 'codes "stale"', 'codes "planted"')], ["FORMATS.md does not say `planted`", "MANUAL.md has no row of `planted`"]),

@@ -89,13 +89,12 @@ def rewritten(part, tree):
     return page, text, text[:start] + part(tree) + text[end:]
 
 
-def differences(part, tree):
-    """The first line of a page that is not as it is written."""
-    page, text, wanted = rewritten(part, tree)
-    for number, (line, new) in enumerate(zip_longest(text.splitlines(), wanted.splitlines()), 1):
-        if line != new:
-            return [f"{page}:{number}: `python3 tests/pages write` writes '{new}' here"]
-    return []
+def differences(tree):
+    """The first line of each part that is not as it is written."""
+    for part in PARTS:
+        page, text, wanted = rewritten(part, tree)
+        lines = enumerate(zip_longest(text.splitlines(), wanted.splitlines()), 1)
+        yield from [f"{page}:{number}: `python3 tests/pages write` writes '{new}' here" for number, (line, new) in lines if line != new][:1]
 
 
 def write(tree):
