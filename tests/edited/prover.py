@@ -1,9 +1,6 @@
-"""Calls the toolchain's prover on a copy of a crate.
-
-This is where the tool leans on the kit: `rt doc` prints the path of a page at the kit's top, where bin/rattle, rlibs/, logic_built/ and
-rattle/logic/antt-project.json are; `rattle check` takes the words below, which are those that `rt check` gives it; and `rt lib` leaves a
-library as out/rlib/NAME.rlib. How the prover words what it refuses is read in report.py alone.
-"""
+"""Calls the toolchain's prover on a copy of a crate. This is where the tool leans on the kit: `rt doc` prints the path of a page at the
+kit's top, where bin/rattle, rlibs/, logic_built/ and rattle/logic/antt-project.json are; `rattle check` takes the words below, which are
+those that `rt check` gives it; and `rt lib` leaves a library as out/rlib/NAME.rlib."""
 import os
 import re
 import shutil

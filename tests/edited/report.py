@@ -1,10 +1,7 @@
-"""What a check says of each function: the lines of `rattle check`, which are the only thing here that reads the prover's words.
-
-Read are: `fn NAME: proved`, and else `fn NAME: not proved`, `no proof` or `could not tell`, with `search did not prove` the goals that are
-open and `it calls` those functions that are not proved; `note: FILE:LINE:COLUMN: it is not proved that ..` for an open goal; and
-`FILE:LINE:COLUMN: error` for what the proof files get wrong. A kit that words these otherwise is noticed: then nothing counts as
-refused at a goal of its own.
-"""
+"""What a check says of each function: here alone the prover's words are read. These are `fn NAME: proved`, and else `fn NAME: not proved`,
+`no proof` or `could not tell`, with `search did not prove` the goals that are open; `note: FILE:LINE:COLUMN: it is not proved that ..` for
+an open goal; and `FILE:LINE:COLUMN: error` for what the proof files get wrong. A kit that words these otherwise is noticed: then nothing
+counts as refused at a goal of its own."""
 import re
 
 PLACE = r"(?:\./)?(?P<file>(?:src|specs|proofs)/\S+?):(?P<line>\d+):\d+: "

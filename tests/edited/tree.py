@@ -130,25 +130,20 @@ class Tree:
         parts = -(-len(edits) // MOST_OF_A_CRATE)
         return edits[turn % parts :: parts]
 
-
-class Passed:
-    """The file that keeps for each crate the sum at which all of its wrong bodies were refused."""
-
-    def __init__(self, tree):
-        self.tree, self.path = tree, tree.top / "tests/edits.passed"
-
-    def read(self):
-        words = words_in(self.path)
+    def passed(self):
+        """For each crate the sum at which all of its wrong bodies were refused, as tests/edits.passed keeps it."""
+        words = words_in(self.top / "tests/edits.passed")
         return dict(zip(words[::2], words[1::2]))
 
     def differing(self):
-        kept, sums = self.read(), self.tree.sums(self.tree.with_edits)
-        return [it for it in self.tree.with_edits if kept.get(it) != sums[it]]
+        passed, sums = self.passed(), self.sums(self.with_edits)
+        return [it for it in self.with_edits if passed.get(it) != sums[it]]
 
-    def keep(self, crate, sum):
+    def keep_passed(self, crate, sum):
         # (another run may have kept others meanwhile)
-        kept = {**self.read(), crate: sum}
-        self.path.write_text("".join(f"{it} {kept[it]}\n" for it in self.tree.with_edits if it in kept), encoding="utf-8")
+        kept = {**self.passed(), crate: sum}
+        text = "".join(f"{it} {kept[it]}\n" for it in self.with_edits if it in kept)
+        (self.top / "tests/edits.passed").write_text(text, encoding="utf-8")
 
 
 class Refused:

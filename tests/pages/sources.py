@@ -1,7 +1,6 @@
 """The crates of a tree: the definitions of specs/, the contracts of src/, and which names each of them uses."""
 import re
 from collections import namedtuple
-from dataclasses import dataclass, field
 from functools import cached_property, lru_cache
 from itertools import takewhile
 from pathlib import Path
@@ -16,13 +15,12 @@ Definition = namedtuple("Definition", "key crate module name line comment text")
 Clause = namedtuple("Clause", "crate path function name text")
 
 
-@dataclass
 class Scope:
     """What the names of a file stand for: full names below 'Rattle.', by the name or the alias that the file uses. And
     the comment at the head of the file."""
-    names: dict = field(default_factory=dict)
-    modules: dict = field(default_factory=dict)
-    head: str = ""
+
+    def __init__(self, head=""):
+        self.names, self.modules, self.head = {}, {}, head
 
     def read(self, line):
         """Takes in an import, if the line is one."""
@@ -49,7 +47,7 @@ class Scope:
 def read_specs(crate, module, text):
     """The definitions of a file of specs, in order, each with the comment above it, and its scope."""
     lines, found, indent, above = text.splitlines(), [], "", []
-    scope = Scope(head=" ".join(it.removeprefix("--").strip() for it in takewhile(lambda it: it.startswith("--"), lines)))
+    scope = Scope(" ".join(it.removeprefix("--").strip() for it in takewhile(lambda it: it.startswith("--"), lines)))
     for number, line in enumerate(lines, 1):
         if line.startswith("use "):
             scope.read(line)
@@ -180,17 +178,16 @@ class Tree:
 
     def in_order(self, crate):
         """The definitions of a crate, files that use no other first."""
-        done = []
+        seen, done = set(), []
 
         def place(module):
-            scope = self.specs[module][1]
-            for full in [*scope.names.values(), *scope.modules.values()]:
-                other = ".".join(full.split(".")[:3])
-                if other.startswith(f"{crate}.") and other in self.specs and other not in (module, *done):
-                    place(other)
-            done.append(module)
+            if module in self.specs and module.startswith(f"{crate}.") and module not in seen:
+                seen.add(module)
+                scope = self.specs[module][1]
+                for full in [*scope.names.values(), *scope.modules.values()]:
+                    place(".".join(full.split(".")[:3]))
+                done.append(module)
 
         for module in self.specs:
-            if module.startswith(f"{crate}.") and module not in done:
-                place(module)
+            place(module)
         return [it.key for module in done for it in self.specs[module][0]]
