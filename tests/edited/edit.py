@@ -31,19 +31,11 @@ class Edit:
     @cached_property
     def changes(self):
         """The file, the old text and the new one of each change."""
-        file, old, found = "", "", []
+        last, found = {"file": "", "old": ""}, []
         for key, text in re.findall(r"(?m)^(file|old|new): ?(.*)", self.text):
-            if key == "file":
-                file = text.strip()
-            elif key == "old":
-                old = text
-            elif not file or not old:
-                raise NoLongerApplies("a 'new:' stands before any 'file:' or 'old:'")
-            else:
-                found.append((file, old, text))
-                old = ""
-        if not found:
-            raise NoLongerApplies("it has no 'old:' and 'new:'")
+            if key == "new":
+                found.append((last["file"].strip(), last["old"], text))
+            last[key] = text
         return found
 
     def applied(self, texts):

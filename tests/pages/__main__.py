@@ -58,7 +58,7 @@ def reach(tree, *names):
     print(f"{len(clauses)} clauses, {len(reached)} of {len(tree.definitions)} definitions, {lines} lines")
 
 
-COMMANDS: Dict[str, Callable] = {it.__name__: it for it in (rules, check, run, write, reach)}
+COMMANDS: Dict[str, Callable] = {"rules": rules, "check": check, "run": run, "write": write, "reach": reach}
 
 if __name__ == "__main__":
     command, *words = sys.argv[1:] or [""]

@@ -7,40 +7,13 @@ from pathlib import Path
 from pages.markdown import anchors_of, links_of, prose_of, rows_of, sections_of
 
 PROVED, ARCHITECTURE = "docs/PROVED.md", "docs/ARCHITECTURE.md"
-FUNCTION = re.compile(r"`([^`]+)`(?:,? and |, )?")
-CLAUSE = re.compile(r"(\w+)(?: \([^)]*\))?(?:, | and |$)")
+CLAUSE = re.compile(r"(\w+)(?: \([^)]*\))?(?:, | and |$)")  # perhaps with fields in brackets
+ENTRY = re.compile(rf"((?:`[^`]+`(?:,? and |, )?)+) *((?:{CLAUSE.pattern})*)")
 FILE = re.compile(r"(crates|docs|tests|scripts|bench|examples|page|desks)(/[\w.*-]+)+")
 OF_CRATE = re.compile(r"(zh_\w+/)?(src|specs|proofs|data)(/\w+)+\.\w+")
 TYPE = re.compile(r"^\s*pub (?:struct|enum|trait|type) (\w+)", re.M)
 NAME = re.compile(r"[a-z0-9]+(_[a-z0-9]+)+|([A-Z][a-z0-9]+){2,}")
 LINKED = re.compile(r"\[`([\w:]+)`\]\(([^()\s#]+\.(?:rt|antt))\)")
-
-
-def matches(pattern, text):
-    """What the pattern finds from the text's start on, one after another, and the rest of the text."""
-    found = []
-    while one := pattern.match(text):
-        found.append(one[1])
-        text = text[one.end():]
-    return found, text
-
-
-def citations(tree, faults):
-    """Each function of PROVED's column `Carried by`: its line, the crates in the heading above, the type named last, its
-    name, and the clauses meant; none where all of them are. Entries are parted by ';', and have functions in backticks
-    and then names of clauses, a clause perhaps with fields in brackets."""
-    for section in sections_of(tree.read(PROVED)):
-        crates, owner = re.findall(r"`(zh\w*)`", section.title), None
-        rows = [(line, row["Carried by"]) for line, row in rows_of(section) if "Carried by" in row]
-        for line, entry in ((line, it.strip()) for line, cell in rows for it in cell.split(";")):
-            functions, rest = matches(FUNCTION, entry)
-            clauses, rest = matches(CLAUSE, rest.strip())
-            if rest or not functions:
-                faults.append(f"{PROVED}:{line}: can't be read: {entry}")
-                continue
-            for name in functions:
-                owner = name.split("::")[0] if "::" in name and " for " not in name else owner
-                yield line, crates, owner, name, clauses
 
 
 def is_called(function, name, owner):
@@ -53,16 +26,26 @@ def is_called(function, name, owner):
 
 
 def promised(tree):
-    """The clauses that PROVED names, and where it names none."""
+    """The clauses that PROVED's column `Carried by` names, under a heading with their crates, and where it names none. Entries are parted
+    by ';', and have functions in backticks and then names of clauses, or none where all are meant."""
     found, faults, by_word = [], [], {}
     for word, it in ((word, it) for it in tree.clauses for word in {*re.split("::| for ", it.function)}):
         by_word.setdefault(word, []).append(it)
-    for line, crates, owner, name, clauses in citations(tree, faults):
-        called = [it for it in by_word.get(re.split("::| for ", name)[-1], []) if is_called(it.function, name, owner)]
-        meant = [it for it in called if it.crate in crates] or called * ("::" in name)
-        faults += [] if meant else [f"{PROVED}:{line}: there is no {name}"]
-        faults += [f"{PROVED}:{line}: {name} has no clause {it}" for it in clauses if meant and it not in {it.name for it in meant}]
-        found += [it for it in meant if not clauses or it.name in clauses]
+    for section in sections_of(tree.read(PROVED)):
+        crates, owner = re.findall(r"`(zh\w*)`", section.title), None
+        cells = [(line, row["Carried by"]) for line, row in rows_of(section) if "Carried by" in row]
+        for line, entry in ((line, it.strip()) for line, cell in cells for it in cell.split(";")):
+            named = ENTRY.fullmatch(entry)
+            faults += [] if named else [f"{PROVED}:{line}: can't be read: {entry}"]
+            clauses = CLAUSE.findall(named[2] if named else "")
+            for name in re.findall("`([^`]+)`", named[1] if named else ""):
+                owner = name.split("::")[0] if "::" in name and " for " not in name else owner
+                called = [it for it in by_word.get(re.split("::| for ", name)[-1], []) if is_called(it.function, name, owner)]
+                meant = [it for it in called if it.crate in crates] or called * ("::" in name)
+                faults += [] if meant else [f"{PROVED}:{line}: there is no {name}"]
+                gone = {*clauses} - {it.name for it in meant} if meant else ()
+                faults += [f"{PROVED}:{line}: {name} has no clause {it}" for it in gone]
+                found += [it for it in meant if not clauses or it.name in clauses]
     return found, faults
 
 
