@@ -12,7 +12,6 @@ what is done with it:
 - Every line is a line for the office and its reply, with two blanks or more between: a dialogue, in a rehearsal of its own.
   After two more blanks there may be a remark.
 - Its fence names a file, as in '```toml setup.toml': the block is that file.
-- It is indented, or its fence says 'sh' or nothing: a script. Each of its commands has to succeed.
 
 Any other block is a fault, unless tests/pages/left_out has the reason why it is not run. ZHCOUNT names another built program
 than crates/zhcount/out/zhcount, and stands there then."""
@@ -52,15 +51,9 @@ for room; do
     echo "$status" > "$room/status"
 done
 """
-# A script, whose status is that of its last command that failed; that of a wait is how a job ended, which may be killed.
-SCRIPT = """failed=0
-trap 'at=$?; [[ $BASH_COMMAND == wait* ]] || failed=$at' ERR
-%s
-trap - ERR
-(exit $failed)"""
 
-# A command of a block: what is typed to it, what it is to print, if that is shown, whether it may fail, and whether it is a script.
-Step = namedtuple("Step", "command typed shown may_fail is_script", defaults=((), None, False, False))
+# A command of a block: what is typed to it, what it is to print, and whether it may fail.
+Step = namedtuple("Step", "command typed shown may_fail", defaults=((), (), False))
 
 
 def step_of(text, next_text):
@@ -83,7 +76,7 @@ def steps_of(block, folder):
         return [Step("zhcount 2> /dev/null", [it[1] for it in turns], [it[2] for it in turns])]
     if block.file and "/" not in block.file:
         return [Step(f"(set -C; cat > {shlex.quote(str(folder / block.file))})", block.lines)]
-    return [Step(text, is_script=True)] if block.word in ("", "sh") else []
+    return []
 
 
 def meets(output, shown):
@@ -101,7 +94,7 @@ def fault_of(step, room, local):
     output = OF_A_JOB.sub("", output).replace(local, "/usr/local")
     if not status:
         return f"it ended the shell, or had not ended after {SECONDS} seconds\n{output}"
-    if step.shown is not None and not meets(output, step.shown):
+    if not meets(output, step.shown):
         return "\n".join([f"the page: {it}" for it in step.shown] + [f"printed:  {it}" for it in output.splitlines()])
     return f"its status is {status.strip()}, which the page does not show\n{output}" if status != "0\n" and not step.may_fail else ""
 
@@ -114,8 +107,7 @@ def run_page(tree, page, folder, environment, local="/usr/local"):
     rooms = [Path(environment["TMPDIR"], "rooms", page, str(number)) for number in range(len(steps))]
     for (_, step), room in zip(steps, rooms):
         room.mkdir(parents=True)
-        command = SCRIPT % step.command if step.is_script else step.command
-        (room / "command").write_text(command.replace("/usr/local", local) + "\n")
+        (room / "command").write_text(step.command.replace("/usr/local", local) + "\n")
         (room / "input").write_text("".join(f"{line}\n" for line in step.typed))
     words, none = ["bash", "--noprofile", "--norc", "-c", LOOP, "bash", *rooms], subprocess.DEVNULL
     shell = subprocess.Popen(words, cwd=folder, env=environment, stdin=none, stdout=none, stderr=none, start_new_session=True)
