@@ -78,13 +78,6 @@ def plant_in(text, says):
     return found
 
 
-def put(plant, folder):
-    path, = folder.rglob(plant["file"])
-    text = path.read_text()
-    assert text.count(plant["old"]) == 1, f"the right text is in {plant['file']} {text.count(plant['old'])} times, not once"
-    path.write_text(text.replace(plant["old"], plant["new"]))
-
-
 # What a test of each part reports on the copy of a folder.
 
 
@@ -220,7 +213,10 @@ def judge(said, says):
 @pytest.mark.parametrize("part, plant", mistakes())
 def test_mistake(part, plant, tmp_path, request):
     folder = part.copied(tmp_path)
-    put(plant, folder)
+    path, = folder.rglob(plant["file"])
+    text = path.read_text()
+    assert text.count(plant["old"]) == 1, f"the right text is in {plant['file']} {text.count(plant['old'])} times, not once"
+    path.write_text(text.replace(plant["old"], plant["new"]))
     if "seen by" in plant:
         judge(part.fault(plant["seen by"], folder, tmp_path, request), plant.get("says", ""))
 
