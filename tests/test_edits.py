@@ -5,7 +5,7 @@ import subprocess
 
 import pytest
 
-from edited.entries import entries_of
+from edited.edit import entries_of
 from edited.tree import MOST_OF_A_CRATE, Tree
 from places import TOP
 

@@ -24,7 +24,7 @@ from collections import namedtuple
 import pytest
 
 import seals
-from edited.entries import entries_of
+from edited.edit import entries_of
 from edited.tree import Tree
 from places import TOP
 

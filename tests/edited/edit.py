@@ -1,11 +1,22 @@
-"""A wrong body: a text with a line `file: src/x.rt` and pairs of lines `old: TEXT` and `new: TEXT`, as the toolchain reads it, and
-perhaps a line `# refused at: FUNCTION`, which names a caller in the same crate whose contract refuses it. It is a file of
-crates/CRATE/must-fail, or an entry of tests/wrong_bodies/CRATE.edits."""
+"""Files of mistakes, and those that are wrong bodies."""
 import re
 from functools import cached_property
 
-from edited.entries import entries_of
 from edited.functions import functions_of
+
+ENTRY = re.compile(r"name: (\S+)\n((?:.+\n)+)")
+
+
+def entries_of(path):
+    """The entries of a file `NAME.edits`, with a blank line between them: the first line of each is `name: NAME`, the others are its
+    text, which ends with a line feed."""
+    found = {}
+    for block in re.split(r"(?<=\n)\n", path.read_text(encoding="utf-8")):
+        entry = ENTRY.fullmatch(block)
+        if not entry or entry[1] in found:
+            raise ValueError(f"{path} has an entry without a name, a text or a line feed, or two of one name: {block[:80]!r}")
+        found[entry[1]] = entry[2]
+    return found
 
 
 class NoLongerApplies(Exception):
@@ -13,6 +24,10 @@ class NoLongerApplies(Exception):
 
 
 class Edit:
+    """A wrong body: a text with a line `file: src/x.rt` and pairs of lines `old: TEXT` and `new: TEXT`, as the toolchain reads it, and
+    perhaps a line `# refused at: FUNCTION`, which names a caller in the same crate whose contract refuses it. It is a file of
+    crates/CRATE/must-fail, or an entry of tests/wrong_bodies/CRATE.edits."""
+
     def __init__(self, name, crate, text):
         self.name, self.crate, self.text = name, crate, text
 

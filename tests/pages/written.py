@@ -2,7 +2,7 @@
 import re
 from itertools import groupby, zip_longest
 
-from edited.entries import entries_of
+from edited.edit import entries_of
 from pages.drawn import layers
 from pages.markdown import wrapped
 
