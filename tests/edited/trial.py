@@ -4,6 +4,7 @@ import tempfile
 import time
 from concurrent.futures import ThreadPoolExecutor, as_completed
 from pathlib import Path
+from types import SimpleNamespace
 
 from edited.edit import NoLongerApplies
 from edited.report import GONE_NAME
@@ -33,35 +34,30 @@ class Crate:
         return self.refused == self.number
 
 
-class Batch:
-    """Edits of different functions, the names of these, and the texts after all."""
-
-    def __init__(self):
-        self.names, self.texts, self.edits = set(), {}, []
-
-    def takes(self, edit):
-        """Adds the edit, if it changes no function of the batch, nor one whose name the prover's words may not tell from it, and
-        no text that another needs. Whether it does."""
-        names = {(it.of or it.file, it.name) for it in edit.functions}
-        try:
-            texts = edit.applied(self.texts)
-        except NoLongerApplies:
-            return False
-        if self.names & names:
-            return False
-        self.names, self.texts = self.names | names, texts
-        self.edits.append(edit)
-        return True
+def together(texts, edit):
+    """The texts of a batch after this edit too, or None where another of the batch changed what it needs."""
+    try:
+        return edit.applied(texts)
+    except NoLongerApplies:
+        return None
 
 
 def batches_of(edits):
-    """The edits in batches, and those that change what other functions prove each in one of its own."""
-    batches, alone = [], [[it] for it in edits if it.stands_alone]
-    for edit in edits:
-        if not edit.stands_alone and not any(it.takes(edit) for it in batches):
-            batches.append(Batch())
-            batches[-1].takes(edit)
-    return [it.edits for it in batches] + alone
+    """The edits in batches: those of one change different functions, whose names the prover's words tell apart. An edit that changes what
+    other functions prove has a batch of its own."""
+    batches = []
+    for edit in (it for it in edits if not it.stands_alone):
+        names = {(it.of or it.file, it.name) for it in edit.functions}
+        for batch in batches:
+            texts = None if batch.names & names else together(batch.texts, edit)
+            if texts:
+                break
+        else:
+            batch, texts = SimpleNamespace(edits=[], names=set()), edit.applied({})
+            batches.append(batch)
+        batch.edits.append(edit)
+        batch.names, batch.texts = batch.names | names, texts
+    return [it.edits for it in batches] + [[it] for it in edits if it.stands_alone]
 
 
 def judged(report, crate, edit, is_alone):
