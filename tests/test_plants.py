@@ -32,23 +32,28 @@ PASSED = TOP / "tests/plants.passed"
 IN_TURN = 6
 UNREAD = {".md", ".pyc", "__pycache__", "out"}
 
-FIELDS = {"seen by", "says", "changes nothing", "old", "new"}
+# The fields that a plant may have.
+FORMS = [{"old", "new", "seen by", "says"}, {"old", "new", "changes nothing"}]
 # How a test fails that sees a mistake: by what it compares, or by a file or an end that does not come. Other faults are its own.
 ERRORS = r"AssertionError|Failed|FileNotFoundError|PermissionError|BrokenPipeError|subprocess\.\w+"
 SEEN = re.compile(rf"= FAILURES =(?:.|\n)*?^E   (?:(?:{ERRORS}): (.*)(?:\nE   (assert .*))?|(assert .*))", re.M)
 LATE = re.compile(r"not after [\d.]+ seconds|.* timed out after [\d.]+ seconds")
 
 
-class Part(namedtuple("Part", "name folder whole fault says marks")):
+class Part(namedtuple("Part", "name folder whole fault forms marks")):
     """What the plants of a folder of tests are about: the folder whose files are changed, the one that is copied for it, what a test
-    reports that fails on the copy, or None if it passes, whether each plant says that, and the marks of its plants."""
+    reports that fails on the copy, or None if it passes, and the forms and the marks of its plants."""
 
     def plants(self):
+        """The fields of each plant, by its name, and the file that it changes."""
         found = {}
         for file in sorted((TOP / "tests" / self.name / "plants").glob("*.edits")):
-            entries = {name: {"file": file.stem, **plant_in(text, self.says)} for name, text in entries_of(file).items()}
-            assert not entries.keys() & found.keys(), f"{file} has a name that another file has"
-            found.update(entries)
+            for name, text in entries_of(file).items():
+                plant = {}
+                for field, rest in (line.split(":", 1) for line in text.splitlines()):
+                    plant[field] = f"{plant[field]}\n{rest[1:]}" if field in plant else rest[1:]
+                assert plant.keys() in self.forms and name not in found, f"{file}: {name} has not the fields of a plant, or is there twice"
+                found[name] = {"file": file.stem, **plant}
         return found
 
     def sum(self):
@@ -63,19 +68,6 @@ class Part(namedtuple("Part", "name folder whole fault says marks")):
         source = os.environ["DESKS"] if self.name == "desks" else TOP / self.whole
         shutil.copytree(source, room / "copy" / self.whole, symlinks=True, ignore=shutil.ignore_patterns("out", ".git"))
         return room / "copy" / self.folder
-
-
-def plant_in(text, says):
-    """The fields of a plant, each with its text."""
-    found = {}
-    for line in text.splitlines():
-        name, colon, rest = line.partition(":")
-        assert name in FIELDS and colon, f"this line is none of a plant: {line[:80]}"
-        found[name] = f"{found[name]}\n{rest[1:]}" if name in found else rest[1:]
-    assert {"old", "new"} <= found.keys(), "it needs an old and a new text"
-    assert ("seen by" in found) != ("changes nothing" in found), "it needs a test that sees it, or the reason why it changes nothing"
-    assert "says" in found or "changes nothing" in found or not says, f"it needs what the test reports: {text}"
-    return found
 
 
 # What a test of each part reports on the copy of a folder.
@@ -147,9 +139,10 @@ def of_the_page(test, folder, room, request):
 
 
 PARTS = [
-    Part("desks", "desks", "desks", of_desks, True, ()),
-    Part("page", "page/parts", "page/parts", of_the_page, True, ()),
-    Part("real_file", "crates/zh_file", "", of_the_operating_system, False, (pytest.mark.slow, pytest.mark.xdist_group("rt try"))),
+    Part("desks", "desks", "desks", of_desks, FORMS, ()),
+    Part("page", "page/parts", "page/parts", of_the_page, FORMS, ()),
+    Part("real_file", "crates/zh_file", "", of_the_operating_system, [{"old", "new", "seen by"}],
+         (pytest.mark.slow, pytest.mark.xdist_group("rt try"))),
 ]
 
 
