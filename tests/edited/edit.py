@@ -89,13 +89,3 @@ class Edit:
     def stands_alone(self):
         """Whether it may change what other functions have to prove, as an edit of a type, a constant or a clause does."""
         return bool(self.callers()) or not all(is_in_body for _, is_in_body in self.places)
-
-
-def edits_of(top, crate):
-    """The wrong bodies of a crate, in both places."""
-    folder, others = top / "crates" / crate, top / "tests/wrong_bodies" / f"{crate}.edits"
-    found = entries_of(others) if others.is_file() else {}
-    gravest = {it.stem: it.read_text(encoding="utf-8") for it in sorted((folder / "must-fail").glob("*.edit"))}
-    for name in gravest.keys() & found.keys():
-        raise ValueError(f"{others} has an entry of the name of {folder}/must-fail/{name}.edit")
-    return [Edit(name, folder, text) for name, text in {**gravest, **found}.items()]

@@ -5,7 +5,7 @@ import subprocess
 from functools import cached_property
 from pathlib import Path
 
-from edited.edit import edits_of
+from edited.edit import Edit, entries_of
 from edited.functions import without_bodies
 
 PARTS = ("src", "specs", "proofs")
@@ -43,7 +43,13 @@ class Tree:
         return [it for it in self.named if it in found]
 
     def edits(self, crate):
-        return edits_of(self.top, crate)
+        """The wrong bodies of a crate, in both places."""
+        folder, others = self.folder(crate), self.top / f"tests/wrong_bodies/{crate}.edits"
+        found = entries_of(others) if others.is_file() else {}
+        gravest = {it.stem: it.read_text(encoding="utf-8") for it in sorted((folder / "must-fail").glob("*.edit"))}
+        for name in gravest.keys() & found.keys():
+            raise ValueError(f"{others} has an entry of the name of {folder}/must-fail/{name}.edit")
+        return [Edit(name, folder, text) for name, text in {**gravest, **found}.items()]
 
     def gravest(self, crate):
         """Its wrong bodies that tests/wrong_bodies/gravest names, each with a reason, but for those that rt ci tries."""
