@@ -2,7 +2,7 @@
 from collections import namedtuple
 from itertools import chain
 
-from pages import cited, examples, language, owed, written
+from pages import cited, examples, language, owed, shape, written
 from pages.unread import unread
 
 START, END = r"\A", r"\Z"
@@ -20,6 +20,13 @@ RULES = [
     Rule("reached", "a clause, law or ghost field of a source reaches each definition",
          lambda tree: [f"no clause reaches {key}" for key in tree.unreached()],
          [(SPEC, END, "abbrev pub planted : ℕ\nplanted = 1\n")], [r"no clause reaches zh_disk\.specs\.Planted\.planted"]),
+    Rule("names", "no two crates define one name", shape.names,
+         [(SPEC, END, "pub record Office : Type 0 where\n")], ["Office is defined in zh_disk and zh_office"]),
+    Rule("parameters", "no definition has more than six parameters", shape.parameters,
+         [(SPEC, END, "abbrev pub planted : {A : Type 0} → ((ℕ → ℕ) → ℕ) → (a b c : ℕ) → (d : ℕ) × (d ≡ d) → A → A → A\n")],
+         [r"planted in \S*Planted.antt has 7 parameters"]),
+    Rule("characters", "no line of a definition or of the code has more than 140 characters", shape.characters,
+         [(SPEC, END, f"-- {'≡' * 138}\n")], [r"Planted\.antt:1 has 141 characters"]),
     Rule("unread", "no crate has destructors or macros of its own, or unsafe code", unread,
          [(SOURCE, END, "impl<D: File + Drop>\n    Drop for HeldFile<D> {\n}\nuse std::prelude::Drop as Let;\n"
            "impl<D: File> Drop /* a file */ for HeldFile<D> {\n}\nimpl<const N: usize = { 1 }> Drop for Held<N> {\n}\n"
@@ -61,6 +68,10 @@ RULES = [
          [(SPECS, 'codes "stale"', 'codes "planted"')], ["FORMATS.md does not say `planted`", "MANUAL.md has no row of `planted`"]),
     Rule("limits", "FORMATS and MANUAL say each limit", owed.limits,
          [(SOURCES, r"const MOST_ROWS: \w+ = [\d_]+;", "const MOST_ROWS: usize = 1_003;")], ["MANUAL.md does not say 1,003, MOST_ROWS"]),
+    Rule("columns", "a line has at most 80 characters", language.long_lines,
+         [(FAQ, END, f"\n{'long ' * 16}!\n")], ["81 characters"]),
+    Rule("terms", "no word of the glossary stands before a link to it", language.terms,
+         [(FAQ, START, "A snapshot\n\n")], ["FAQ.md:1: 'snapshot' is explained elsewhere"]),
     Rule("translations", "a German page has the headings, blocks, rows, items, words in backticks, links and numbers of the English, no ß",
          language.translations,
          [(GERMAN, END, "\n- Spaß: 77777 `planted` [dort](BRIEF.md)\n\n| a | b |\n\n```text\nplanted\n```\n"),
