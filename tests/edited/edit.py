@@ -82,8 +82,8 @@ class Edit:
 
     @property
     def functions(self):
-        """The functions that may refuse the edit: those that it changes, and those that it names."""
-        return list(dict.fromkeys([*(inner for inner, _ in self.places if inner), *self.callers()]))
+        """The functions that are to refuse the edit: those that it names, else those that it changes."""
+        return list(dict.fromkeys(self.callers() or [inner for inner, _ in self.places if inner]))
 
     @property
     def stands_alone(self):
