@@ -7,11 +7,10 @@ from pathlib import Path
 
 CC = os.environ.get("CC") or "cc"
 BENCH = Path(__file__).resolve().parent
-SOURCES = ("search", "sweeps", "decision", "divisors", "lot")
-LINES, MOST = 32, 10**18
-FOUND, NO_VOTES, TIED, EXHAUSTED = range(4)
-SEATS, IMPOSSIBLE, NEARLY_TIED, BEYOND = range(4)
-Cells, Totals, Divisors = ctypes.c_uint32 * LINES**2, ctypes.c_uint32 * LINES, ctypes.c_uint64 * LINES
+SOURCES = ("search", "ways", "decision", "divisors")
+LINES = 32
+FOUND, NO_VOTES, TIED, EXHAUSTED, IMPOSSIBLE, NEARLY_TIED, BEYOND = range(7)
+Pair, Numbers, Divisors, Cells = ctypes.c_int * 2, ctypes.c_uint32 * LINES, ctypes.c_uint64 * LINES, ctypes.c_uint32 * LINES**2
 # What the search answers, and in how many half-steps.
 WORKED = [
     ("rows 5 3 2, columns 5 4 1, votes 525 300 175, votes 240 330 30, votes 90 60 50", 0,  # no column step
@@ -25,39 +24,20 @@ WORKED = [
      "seats; 0 1; 1 0; rows 200000000 400000000; columns 1250000 750000"),
     ("rows 2 2, columns 2 1 1, votes 1 1 1, votes 1 1 1", 0, "tied 1 1"),  # the first half is one in every way
 ]
-# The divisor of a line: its votes, the other divisors, its seats.
-WORKED_LINES = [
-    ([100, 100], [10**6, 10**6], 1, 200000000),
-    ([300, 100], [10**6, 10**6], 1, 400000000),
-    ([100, 300], [200000000, 400000000], 1, 1250000),
-    ([100, 100], [200000000, 400000000], 1, 750000),
-    ([512000000000, 300000000000], [10**6, 10**6], 1, 812000000000000000),
-    ([1], [10**18], 1, 1),
-    ([10**14], [1], 1, 10**18),
-]
 
 
 class Question(ctypes.Structure):
-    _fields_ = [("rows", ctypes.c_int), ("columns", ctypes.c_int), ("votes", ctypes.c_uint64 * LINES**2), ("row_totals", Totals),
-                ("column_totals", Totals)]
+    _fields_ = [("lines", Pair), ("votes", ctypes.c_uint64 * LINES**2), ("totals", Numbers * 2)]
 
 
 class Outcome(ctypes.Structure):
     _fields_ = [("answer", ctypes.c_int), ("row", ctypes.c_int), ("column", ctypes.c_int), ("half_steps", ctypes.c_int),
-                ("of_rows", Divisors), ("of_columns", Divisors), ("seats", Cells)]
-
-
-class Decided(ctypes.Structure):
-    _fields_ = [("decision", ctypes.c_int), ("seats", Cells), ("others", Cells), ("of_rows", Divisors), ("of_columns", Divisors),
-                ("too_few", ctypes.c_int * LINES)]
+                ("divisors", Divisors * 2), ("seats", Cells), ("others", Cells), ("too_few", Numbers)]
 
 
 def question(row_totals, column_totals, votes):
-    found = Question(len(row_totals), len(column_totals))
-    found.votes[:len(votes)] = votes
-    found.row_totals[:len(row_totals)] = row_totals
-    found.column_totals[:len(column_totals)] = column_totals
-    return found
+    totals = row_totals, column_totals
+    return Question(Pair(*map(len, totals)), (ctypes.c_uint64 * LINES**2)(*votes), (Numbers * 2)(*(Numbers(*it) for it in totals)))
 
 
 def question_of(lines):
@@ -71,72 +51,56 @@ def listed(word, cells, columns):
     return "; ".join([word, *(" ".join(map(str, row)) for row in rows)])
 
 
+def spelled(q, o):
+    """An outcome as the cases say it."""
+    rows, columns = q.lines
+    seats, others = o.seats[:rows * columns], o.others[:rows * columns]
+    if o.answer == FOUND:
+        divisors = (" ".join(map(str, of_side[:n])) for of_side, n in zip(o.divisors, q.lines))
+        return "{}; rows {}; columns {}".format(listed("seats", seats, columns), *divisors)
+    if o.answer == NEARLY_TIED:
+        first = [one == other for one, other in zip(seats, others)].index(False)
+        return f"nearly tied {first // columns + 1} {first % columns + 1}"
+    return {NO_VOTES: f"no votes {o.row + 1}", TIED: f"tied {o.row + 1} {o.column + 1}", EXHAUSTED: "exhausted",
+            IMPOSSIBLE: " ".join(["impossible", *(str(d + 1) for d in range(rows) if o.too_few[d])]),
+            BEYOND: listed("beyond", seats, columns)}[o.answer]
+
+
 class Asked:
-    """What C says of questions, as the cases say it; the C of bench/ that finds and decides is compiled into this folder."""
+    """What C says of questions; the C of bench/ that finds and decides is compiled into this folder."""
 
     def __init__(self, folder):
         path, sources = Path(folder) / "search.so", [BENCH / f"{it}.c" for it in SOURCES]
         subprocess.run([CC, "-O2", "-std=gnu11", "-shared", "-fPIC", *sources, "-o", path], check=True)
         self.c = ctypes.CDLL(str(path))
-        self.c.line.restype = ctypes.c_uint64
 
-    def matrix(self, word, q, cells):
-        return listed(word, cells[:q.rows * q.columns], q.columns)
-
-    def seats(self, q, found):
-        lines = ["rows", *found.of_rows[:q.rows]], ["columns", *found.of_columns[:q.columns]]
-        return "; ".join([self.matrix("seats", q, found.seats), *(" ".join(map(str, it)) for it in lines)])
-
-    def searched(self, q, o):
-        return {FOUND: self.seats(q, o), NO_VOTES: f"no votes {o.row + 1}", TIED: f"tied {o.row + 1} {o.column + 1}",
-                EXHAUSTED: "exhausted"}[o.answer]
-
-    def decided(self, q, x):
-        differs = next((k for k in range(q.rows * q.columns) if x.seats[k] != x.others[k]), 0)
-        return {SEATS: self.seats(q, x), BEYOND: self.matrix("beyond", q, x.seats),
-                IMPOSSIBLE: " ".join(["impossible", *(str(d + 1) for d in range(q.rows) if x.too_few[d])]),
-                NEARLY_TIED: f"nearly tied {differs // q.columns + 1} {differs % q.columns + 1}"}[x.decision]
-
-    def search(self, q):
-        """The outcome of the search alone."""
+    def outcome(self, function, q):
+        """What `search`, `decide` or `find` makes of a question."""
         o = Outcome()
-        self.c.search(ctypes.byref(q), ctypes.byref(o))
+        self.c[function](ctypes.byref(q), ctypes.byref(o))
         return o
 
-    def question(self, q):
-        o, x = Outcome(), Decided()
-        self.c.find(ctypes.byref(q), ctypes.byref(o), ctypes.byref(x))
-        return self.decided(q, x) if o.answer == EXHAUSTED else self.searched(q, o)
-
-    def decision(self, q):
-        x = Decided()
-        self.c.decide(ctypes.byref(q), ctypes.byref(x))
-        return self.decided(q, x)
-
     def lot(self, q):
-        o, least, most = self.search(q), Cells(), Cells()
+        o, cells = self.outcome("search", q), q.lines[0] * q.lines[1]
         if o.answer != TIED:
             return "no tie"
-        self.c.lot(ctypes.byref(q), ctypes.byref(o), least, most)
-        return f"{self.matrix('least', q, least)}; {self.matrix('most', q, most)}"
+        return "; ".join(listed(word, seats[:cells], q.lines[1]) for word, seats in (("least", o.seats), ("most", o.others)))
 
     def turns(self, text):
         """Each turn of a file of cases that asks for something: what it says, the answer, and the one that is wanted."""
         files = dict(re.findall(r"^file (\S+)\n((?:  .*\n)*)end file$", text, re.M))
         for turn, ask, asked, wanted in re.findall(r"^((question|decision|lot) (.*) -> (.*))$", text, re.M):
-            lines = asked.split(", ") if ask == "lot" else files[asked].splitlines()
-            yield turn, getattr(self, ask)(question_of(lines)), wanted
+            q = question_of(asked.split(", ") if ask == "lot" else files[asked].splitlines())
+            answer = self.lot(q) if ask == "lot" else spelled(q, self.outcome({"question": "find", "decision": "decide"}[ask], q))
+            yield turn, answer, wanted
 
     def wrong(self, paths):
         """What C does not answer as the worked elections and these cases say; the cases may leave the rest open by '..'."""
         for asked, half_steps, wanted in WORKED:
-            o = self.search(q := question_of(asked.split(", ")))
-            if (o.half_steps, self.searched(q, o)) != (half_steps, wanted):
-                yield f"{asked}: {self.searched(q, o)}, in {o.half_steps} half-steps"
-        for votes, others, seats, wanted in WORKED_LINES:
-            found = self.c.line(len(votes), Divisors(*votes), Divisors(*others), seats, ctypes.c_uint64(MOST))
-            if found != wanted:
-                yield f"a line, {votes} {others}: {found}"
+            q = question_of(asked.split(", "))
+            o = self.outcome("search", q)
+            if (o.half_steps, spelled(q, o)) != (half_steps, wanted):
+                yield f"{asked}: {spelled(q, o)}, in {o.half_steps} half-steps"
         for path in paths:
             turns = [*self.turns(path.read_text())]
             yield from [] if turns else [f"{path.name} asks nothing"]

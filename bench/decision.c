@@ -1,115 +1,138 @@
 /* What there is for a question: no matrix on the votes, the only seats, two matrices that are nearly tied, or seats that the
- * divisors of a sheet do not show. */
-#include "sweeps.h"
+ * divisors of a sheet do not show.
+ *
+ * A seat's price is the logarithm of an odd number less that of twice its cell's votes. Potentials of rows and columns show that
+ * no exchange of seats is cheaper, or a cycle of cells shows one that is. */
+#include "search.h"
 
 #include <string.h>
 
-/* ---- a first matrix on the votes with the totals ---- */
+enum { ODDS = 402, LEVELS = LINES + 1, NONE = LINES, GIVEN = 4102, TAKEN = 6 };
 
-/* Seats that are to be placed, and a way to each row: the column that it may get a seat in, and the row that gives it one
- * there, or SPARE where the column has one left. */
-enum { SPARE = -1, UNREACHED = -2 };
+static const uint64_t BASE = (uint64_t)1 << 60;
 
-struct places {
-    uint32_t row_lacks[LINES], column_lacks[LINES];
-    int column[LINES], giver[LINES];
+/* A question with logarithms to base 2, in units of 2^-30, of twice its votes and of the odd numbers; and seats for it. */
+struct priced {
+    const struct question *q;
+    uint64_t of_votes[CELLS], of_odds[ODDS];
+    const uint32_t *seats;
 };
 
-static void fill_cells(const struct question *q, struct places *p, uint32_t *seats) {
-    for (int d = 0; d < q->rows; d++)
-        for (int g = 0; g < q->columns; g++) {
-            int k = d * q->columns + g;
-            uint32_t given = p->row_lacks[d] < p->column_lacks[g] ? p->row_lacks[d] : p->column_lacks[g];
-            if (q->votes[k] == 0)
-                given = 0;
-            seats[k] = given;
-            p->row_lacks[d] -= given;
-            p->column_lacks[g] -= given;
+static uint64_t logarithm(uint64_t number) {
+    uint64_t whole = 63 - (uint64_t)__builtin_clzll(number), part = number << (63 - whole), sum = whole;
+    for (int bit = 0; bit < 30; bit++) {
+        u128 square = (u128)part * part;
+        int twice = square >> 127 != 0;
+        part = (uint64_t)(square >> (63 + twice));
+        sum = 2 * sum + (uint64_t)twice;
+    }
+    return sum;
+}
+
+static void take_logarithms(struct priced *p) {
+    for (int k = 0; k < p->q->lines[ROWS] * p->q->lines[COLUMNS]; k++)
+        p->of_votes[k] = p->q->votes[k] ? logarithm(2 * p->q->votes[k]) : 0;
+    for (int k = 0; k < ODDS; k++)
+        p->of_odds[k] = logarithm(2 * (uint64_t)k + 1);
+}
+
+/* ---- sweeps ---- */
+
+/* By how much each next seat has to be too dear, and each last one cheap enough; the most and the least of a potential. */
+struct bounds {
+    uint64_t given, taken, caps[2], floors[2];
+};
+
+/* Potentials; which line across made each line fall at each level, or NONE; and the cycle that goes from row `last` of these back
+ * to row `first`: each row gives up a seat in its column to the next row. */
+struct sweep {
+    uint64_t potentials[2][LINES];
+    int makers[LEVELS][2][LINES];
+    int first, last, rows[LEVELS], columns[LEVELS + 1];
+};
+
+/* What a cell asks for as the potential of its row, that its next seat is too dear, or of its column, that its last one is not. */
+static uint64_t asked(const struct priced *p, const struct bounds *b, const struct sweep *w, enum side side, int d, int g) {
+    int k = d * p->q->lines[COLUMNS] + g;
+    uint64_t base = BASE - p->of_votes[k];
+    if (side == ROWS)
+        return p->q->votes[k] ? w->potentials[COLUMNS][g] + base + p->of_odds[p->seats[k]] - b->given : UINT64_MAX;
+    if (!p->seats[k])
+        return UINT64_MAX;
+    uint64_t less = base + p->of_odds[p->seats[k] - 1] + b->taken, row = w->potentials[ROWS][d];
+    return row < less ? 0 : row - less;
+}
+
+/* Each line of a side falls to the least that its cells ask for; 0 where one falls below its floor. */
+static int lower(const struct priced *p, const struct bounds *b, struct sweep *w, enum side side, int *makers) {
+    for (int k = 0; k < p->q->lines[side]; k++) {
+        uint64_t *potential = &w->potentials[side][k];
+        makers[k] = NONE;
+        for (int across = 0; across < p->q->lines[!side]; across++) {
+            uint64_t least = side == ROWS ? asked(p, b, w, ROWS, k, across) : asked(p, b, w, COLUMNS, across, k);
+            if (least < *potential) {
+                *potential = least;
+                makers[k] = across;
+            }
         }
-}
-
-/* A row that has a way already and a seat to give in this column. */
-static int giver(const struct question *q, const struct places *p, const uint32_t *seats, int g) {
-    if (p->column_lacks[g] > 0)
-        return SPARE;
-    for (int e = 0; e < q->rows; e++)
-        if (p->giver[e] != UNREACHED && seats[e * q->columns + g] > 0)
-            return e;
-    return UNREACHED;
-}
-
-static int find_way(const struct question *q, struct places *p, const uint32_t *seats, int d) {
-    for (int g = 0; g < q->columns; g++) {
-        int from = q->votes[d * q->columns + g] ? giver(q, p, seats, g) : UNREACHED;
-        if (from == UNREACHED)
-            continue;
-        p->column[d] = g;
-        p->giver[d] = from;
-        return 1;
-    }
-    return 0;
-}
-
-/* A row that lacks a seat and has a way, or -1. */
-static int reach(const struct question *q, struct places *p, const uint32_t *seats) {
-    for (int d = 0; d < q->rows; d++)
-        p->giver[d] = UNREACHED;
-    for (int more = 1; more;) {
-        more = 0;
-        for (int d = 0; d < q->rows; d++) {
-            if (p->giver[d] != UNREACHED || !find_way(q, p, seats, d))
-                continue;
-            if (p->row_lacks[d] > 0)
-                return d;
-            more = 1;
-        }
-    }
-    return -1;
-}
-
-static void pass_on(const struct question *q, struct places *p, uint32_t *seats, int d) {
-    p->row_lacks[d]--;
-    for (; p->giver[d] != SPARE; d = p->giver[d]) {
-        seats[d * q->columns + p->column[d]]++;
-        seats[p->giver[d] * q->columns + p->column[d]]--;
-    }
-    seats[d * q->columns + p->column[d]]++;
-    p->column_lacks[p->column[d]]--;
-}
-
-static int lacks(const struct question *q, const struct places *p) {
-    for (int d = 0; d < q->rows; d++)
-        if (p->row_lacks[d] > 0)
-            return 1;
-    return 0;
-}
-
-/* 0 where there is none: then the rows without a way have too few seats. */
-static int place_all(const struct question *q, struct decided *x) {
-    struct places p;
-    memcpy(p.row_lacks, q->row_totals, sizeof p.row_lacks);
-    memcpy(p.column_lacks, q->column_totals, sizeof p.column_lacks);
-    fill_cells(q, &p, x->seats);
-    while (lacks(q, &p)) {
-        int d = reach(q, &p, x->seats);
-        for (int e = 0; d < 0 && e < q->rows; e++)
-            x->too_few[e] = p.giver[e] == UNREACHED;
-        if (d < 0)
+        if (*potential < b->floors[side])
             return 0;
-        pass_on(q, &p, x->seats, d);
     }
     return 1;
 }
 
-/* ---- divisors in millionths: boxes from 2^20, 2^16, 2^12, 2^8 and 2^4 on ---- */
+/* Backwards from a column that fell at the last level: its maker, that row's maker, and so on, until a column comes again. */
+static void find_cycle(int levels, int column, struct sweep *w) {
+    w->columns[0] = column;
+    for (w->last = 0;; w->last++) {
+        int(*makers)[LINES] = w->makers[levels - w->last];
+        w->rows[w->last] = makers[COLUMNS][w->columns[w->last]];
+        w->columns[w->last + 1] = makers[ROWS][w->rows[w->last]];
+        for (w->first = 0; w->first <= w->last; w->first++)
+            if (w->columns[w->first] == w->columns[w->last + 1])
+                return;
+    }
+}
 
-static const uint64_t HIGH = (uint64_t)1 << 60;
+enum rest { STILL, OUT, CYCLE };
+
+static enum rest sweep(const struct priced *p, struct bounds b, struct sweep *w) {
+    int columns = p->q->lines[COLUMNS];
+    for (int side = ROWS; side <= COLUMNS; side++)
+        for (int k = 0; k < p->q->lines[side]; k++)
+            w->potentials[side][k] = b.caps[side];
+    for (int level = 0; level <= columns; level++) {
+        int *makers = w->makers[level][COLUMNS], fallen = 0;
+        if (!lower(p, &b, w, ROWS, w->makers[level][ROWS]) || !lower(p, &b, w, COLUMNS, makers))
+            return OUT;
+        while (fallen < columns && makers[fallen] == NONE)
+            fallen++;
+        if (fallen == columns)
+            return STILL;
+        if (level == columns)
+            find_cycle(level, fallen, w);
+    }
+    return CYCLE;
+}
+
+static enum rest sweep_freely(const struct priced *p, uint64_t given, uint64_t taken, struct sweep *w) {
+    return sweep(p, (struct bounds){given, taken, {(uint64_t)1 << 61, (uint64_t)1 << 44}, {0, 1}}, w);
+}
+
+/* Each row of a cycle passes on its seat. */
+static void turn(const struct question *q, const struct sweep *w, uint32_t *seats) {
+    for (int k = w->first; k <= w->last; k++) {
+        int taker = k > w->first ? k - 1 : w->last;
+        seats[w->rows[k] * q->lines[COLUMNS] + w->columns[k]]--;
+        seats[w->rows[taker] * q->lines[COLUMNS] + w->columns[k]]++;
+    }
+}
+
+/* ---- divisors in millionths: boxes from 2^20, 2^16, 2^12, 2^8 and 2^4 on ---- */
 
 /* The number from 2^bits on with this logarithm, rounded down. */
 static uint64_t number_of(uint64_t log, int bits, uint64_t most) {
-    uint64_t low = (uint64_t)1 << bits, high = most;
-    if (logarithm(most) <= log)
-        return most;
+    uint64_t low = (uint64_t)1 << bits, high = most + 1;
     while (high - low > 1) {
         uint64_t middle = low + (high - low) / 2;
         if (logarithm(middle) <= log)
@@ -120,17 +143,17 @@ static uint64_t number_of(uint64_t log, int bits, uint64_t most) {
     return low;
 }
 
-static int gives_within(const struct question *q, const struct logarithms *l, struct decided *x, struct sweep *w) {
-    uint64_t scale = logarithm(MOST_OF_COLUMN);
+static int gives_within(const struct priced *p, struct outcome *o, struct sweep *w) {
+    uint64_t scale = logarithm(MOST[COLUMNS]), top = BASE + scale;
     for (int bits = 20; bits >= 4; bits -= 4) {
         uint64_t least = (uint64_t)bits << 30;
-        struct bounds box = {((uint64_t)1 << (32 - bits)) + 6, 6, HIGH + scale - least, scale, HIGH + scale - logarithm(MOST_OF_ROW), least};
-        if (sweep(q, l, x->seats, box, w) != STILL)
+        struct bounds box = {((uint64_t)1 << (32 - bits)) + 6, 6, {top - least, scale}, {top - logarithm(MOST[ROWS]), least}};
+        if (sweep(p, box, w) != STILL)
             continue;
-        for (int d = 0; d < q->rows; d++)
-            x->of_rows[d] = number_of(HIGH + scale - w->of_rows[d], bits, MOST_OF_ROW);
-        for (int g = 0; g < q->columns; g++)
-            x->of_columns[g] = number_of(w->of_columns[g], bits, MOST_OF_COLUMN);
+        for (int d = 0; d < p->q->lines[ROWS]; d++)
+            o->divisors[ROWS][d] = number_of(top - w->potentials[ROWS][d], bits, MOST[ROWS]);
+        for (int g = 0; g < p->q->lines[COLUMNS]; g++)
+            o->divisors[COLUMNS][g] = number_of(w->potentials[COLUMNS][g], bits, MOST[COLUMNS]);
         return 1;
     }
     return 0;
@@ -138,39 +161,55 @@ static int gives_within(const struct question *q, const struct logarithms *l, st
 
 /* ---- the decision ---- */
 
-enum { GIVEN = 4102, TAKEN = 6 };
+/* A first matrix on the votes with the totals; 0 where there is none: the rows for which no seat can be placed have too few. */
+static int place(const struct question *q, struct outcome *o) {
+    static struct places p, trial;
+    memcpy(p.lacks, q->totals, sizeof p.lacks);
+    for (int k = 0; k < q->lines[ROWS] * q->lines[COLUMNS]; k++)
+        p.most[k] = q->votes[k] ? UINT32_MAX : 0;
+    if (place_all(q, &p)) {
+        memcpy(o->seats, p.given, sizeof o->seats);
+        return 1;
+    }
+    for (int d = 0; d < q->lines[ROWS]; d++) {
+        trial = p;
+        o->too_few[d] = !place_one(q, &trial, d);
+    }
+    return 0;
+}
 
 /* The cycle of the least slack of next seats at which there is one. */
-static void close_gap(const struct question *q, const struct logarithms *l, const struct decided *x, struct sweep *cycle) {
+static void close_gap(const struct priced *p, struct sweep *cycle) {
     static struct sweep w;
     uint64_t still_at = 0, cycle_at = GIVEN + TAKEN;
     while (cycle_at - still_at > 1) {
         uint64_t middle = still_at + (cycle_at - still_at) / 2;
-        if (sweep(q, l, x->seats, free_bounds(middle, 0), &w) == STILL) {
+        if (sweep_freely(p, middle, 0, &w) == STILL) {
             still_at = middle;
-            continue;
+        } else {
+            cycle_at = middle;
+            *cycle = w;
         }
-        cycle_at = middle;
-        *cycle = w;
     }
 }
 
-void decide(const struct question *q, struct decided *x) {
-    static struct logarithms l;
+void decide(const struct question *q, struct outcome *o) {
+    static struct priced p;
     static struct sweep w;
-    memset(x, 0, sizeof *x);
-    x->decision = IMPOSSIBLE;
-    if (!place_all(q, x))
+    o->answer = IMPOSSIBLE;
+    if (!place(q, o))
         return;
-    take_logarithms(q, &l);
-    while (sweep(q, &l, x->seats, free_bounds(0, 0), &w) == CYCLE)
-        turn(q, &w, x->seats);
-    if (sweep(q, &l, x->seats, free_bounds(GIVEN, TAKEN), &w) == STILL) {
-        x->decision = gives_within(q, &l, x, &w) ? SEATS : BEYOND;
+    p.q = q;
+    p.seats = o->seats;
+    take_logarithms(&p);
+    while (sweep_freely(&p, 0, 0, &w) == CYCLE)
+        turn(q, &w, o->seats);
+    if (sweep_freely(&p, GIVEN, TAKEN, &w) == STILL) {
+        o->answer = gives_within(&p, o, &w) ? FOUND : BEYOND;
         return;
     }
-    close_gap(q, &l, x, &w);
-    x->decision = NEARLY_TIED;
-    memcpy(x->others, x->seats, sizeof x->others);
-    turn(q, &w, x->others);
+    close_gap(&p, &w);
+    o->answer = NEARLY_TIED;
+    memcpy(o->others, o->seats, sizeof o->others);
+    turn(q, &w, o->others);
 }

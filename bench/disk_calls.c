@@ -2,6 +2,7 @@
  *
  * It judges nothing: it reads no lines, checks nothing that it reads, and what it writes is made up. Each record is
  * answered. The disk has to be formatted, with an empty journal in slot 1 if there is a record. */
+#include <err.h>
 #include <fcntl.h>
 #include <libgen.h>
 #include <stdint.h>
@@ -10,29 +11,15 @@
 #include <string.h>
 #include <unistd.h>
 
-enum {
-    SET_UP = 4096,
-    SLOT_1 = 69632,
-    SLOT_2 = 594176,
-    PAYLOAD = 262391,
-    JOURNAL = 332032,
-    JOURNAL_LENGTH = 262144,
-    PAGE = 256,
-};
+enum { SET_UP = 4096, SLOT_1 = 69632, SLOT_2 = 594176, SLOT_HEAD = 9, PAYLOAD = 262391, JOURNAL = 332032, JOURNAL_LENGTH = 262144, PAGE = 256 };
 
 static void expect(int holds, const char *what) {
-    if (!holds) {
-        perror(what);
-        exit(1);
-    }
+    if (!holds)
+        err(1, "%s", what);
 }
 
 static void read_at(int file, void *to, size_t n, off_t at) {
     expect(pread(file, to, n, at) == (ssize_t)n, "pread");
-}
-
-static void write_at(int file, const void *from, size_t n, off_t at) {
-    expect(pwrite(file, from, n, at) == (ssize_t)n, "pwrite");
 }
 
 static void settle(int file, int folder) {
@@ -42,16 +29,12 @@ static void settle(int file, int folder) {
 }
 
 /* Opens the file, with an empty one beside it that comes and goes. */
-static int open_file(const char *path) {
-    char beside[4096], folder_of[4096];
+static int open_file(char *path) {
+    char beside[4096];
     snprintf(beside, sizeof beside, "%s-wal", path);
-    snprintf(folder_of, sizeof folder_of, "%s", path);
-    int file = open(path, O_RDWR | O_CLOEXEC);
-    expect(file >= 0, path);
-    int log = open(beside, O_RDWR | O_CREAT | O_EXCL | O_CLOEXEC, 0600);
-    expect(log >= 0, beside);
-    int folder = open(dirname(folder_of), O_RDONLY | O_CLOEXEC);
-    expect(folder >= 0, folder_of);
+    int file = open(path, O_RDWR | O_CLOEXEC), log = open(beside, O_RDWR | O_CREAT | O_EXCL | O_CLOEXEC, 0600);
+    int folder = open(dirname(path), O_RDONLY | O_CLOEXEC);
+    expect(file >= 0 && log >= 0 && folder >= 0, beside);
     settle(log, folder);
     settle(file, folder);
     close(folder);
@@ -66,30 +49,28 @@ static void open_disk(int file) {
     expect(fdatasync(file) == 0, "fdatasync");
     read_at(file, bytes, 15, 0);
     size_t set_up = (size_t)bytes[11] << 24 | bytes[12] << 16 | bytes[13] << 8 | bytes[14];
-    read_at(file, bytes, 9, SLOT_1);
-    read_at(file, bytes, 9, SLOT_2);
+    read_at(file, bytes, SLOT_HEAD, SLOT_1);
+    read_at(file, bytes, SLOT_HEAD, SLOT_2);
     read_at(file, bytes, JOURNAL_LENGTH, JOURNAL);
     for (size_t done = 0; done < set_up; done += PAGE)
         read_at(file, bytes, set_up - done < PAGE ? set_up - done : PAGE, (off_t)(SET_UP + done));
-    read_at(file, bytes, PAYLOAD, SLOT_1 + 9);
+    read_at(file, bytes, PAYLOAD, SLOT_1 + SLOT_HEAD);
 }
 
 /* Appends a record at a page: its body, and then the gate of its first page. */
 static void append(int file, int page, int pages) {
     static uint8_t body[PAGE - 1];
-    for (int k = 0; k < pages; k++) {
-        memset(body, page + k, sizeof body);
-        write_at(file, body, sizeof body, JOURNAL + (off_t)(page + k) * PAGE + 1);
+    for (int k = page; k < page + pages; k++) {
+        memset(body, k, sizeof body);
+        expect(pwrite(file, body, sizeof body, JOURNAL + (off_t)k * PAGE + 1) == sizeof body, "pwrite");
     }
     expect(fdatasync(file) == 0, "fdatasync");
-    write_at(file, "\xa5", 1, JOURNAL + (off_t)page * PAGE);
+    expect(pwrite(file, "\xa5", 1, JOURNAL + (off_t)page * PAGE) == 1, "pwrite");
     expect(fdatasync(file) == 0, "fdatasync");
 }
 
 int main(int argc, char **argv) {
-    if (argc != 4)
-        return 2;
-    int pages = atoi(argv[2]), records = atoi(argv[3]);
+    int pages = argc == 4 ? atoi(argv[2]) : -1, records = argc == 4 ? atoi(argv[3]) : -1;
     if (pages < 0 || records < 0 || pages * records > JOURNAL_LENGTH / PAGE)
         return 2;
     int file = open_file(argv[1]);

@@ -4,150 +4,91 @@
 
 #include <string.h>
 
-static const u128 SQUARE = 1000000000000;
 enum { ROUNDS = 1000, MIDDLES = 16 };
 
-/* ---- the least rows and the greatest columns that give the seats ---- */
-
-enum move { STILL, MOVED, OUT };
-
-static enum move raise_rows(const struct question *q, struct outcome *o) {
-    enum move move = STILL;
-    for (int d = 0; d < q->rows; d++) {
-        u128 most = o->of_rows[d];
-        for (int g = 0; g < q->columns; g++) {
-            int k = d * q->columns + g;
-            u128 least = 2 * (q->votes[k] * SQUARE) / ((2 * (u128)o->seats[k] + 1) * o->of_columns[g]) + 1;
-            if (q->votes[k] && least > most)
-                most = least;
-        }
-        if (most > MOST_OF_ROW)
-            return OUT;
-        if (most != o->of_rows[d])
-            move = MOVED;
-        o->of_rows[d] = (uint64_t)most;
+/* The least rows and the greatest columns that give the seats, columns from `top` on: the rows rise and then the columns fall, as far
+ * as their cells require. 0 where one passes a limit. */
+static int settle(const struct question *q, struct outcome *o, uint64_t top) {
+    uint64_t *rows = o->divisors[ROWS], *columns = o->divisors[COLUMNS];
+    int width = q->lines[COLUMNS], cells = q->lines[ROWS] * width, moved = 1;
+    for (int k = 0; k < cells; k++) {
+        rows[k / width] = 1;
+        columns[k % width] = top;
     }
-    return move;
-}
-
-static enum move lower_columns(const struct question *q, struct outcome *o) {
-    enum move move = STILL;
-    for (int g = 0; g < q->columns; g++) {
-        u128 least = o->of_columns[g];
-        for (int d = 0; d < q->rows; d++) {
-            int k = d * q->columns + g;
-            if (!o->seats[k])
-                continue;
-            u128 greatest = (2 * (q->votes[k] * SQUARE) - 1) / ((2 * (u128)o->seats[k] - 1) * o->of_rows[d]);
-            if (greatest < least)
-                least = greatest;
-        }
-        if (least == 0)
-            return OUT;
-        if (least != o->of_columns[g])
-            move = MOVED;
-        o->of_columns[g] = (uint64_t)least;
-    }
-    return move;
-}
-
-static enum move settle(const struct question *q, struct outcome *o, uint64_t top) {
-    for (int d = 0; d < q->rows; d++)
-        o->of_rows[d] = 1;
-    for (int g = 0; g < q->columns; g++)
-        o->of_columns[g] = top;
-    for (int round = 0; round < ROUNDS; round++) {
-        if (raise_rows(q, o) == OUT)
-            return OUT;
-        enum move columns = lower_columns(q, o);
-        if (columns != MOVED)
-            return columns;
-    }
-    return MOVED;
-}
-
-/* ---- the middle, and the strict test ---- */
-
-static void middle(const struct question *q, struct outcome *o) {
-    for (int n = 0; n < MIDDLES; n++) {
-        for (int d = 0; d < q->rows; d++)
-            o->of_rows[d] = line(q->columns, q->votes + d * q->columns, o->of_columns, q->row_totals[d], MOST_OF_ROW);
-        for (int g = 0; g < q->columns; g++) {
-            uint64_t votes[LINES];
-            for (int d = 0; d < q->rows; d++)
-                votes[d] = q->votes[d * q->columns + g];
-            o->of_columns[g] = line(q->rows, votes, o->of_rows, q->column_totals[g], MOST_OF_COLUMN);
-        }
-    }
-}
-
-static int is_strict(const struct question *q, const struct outcome *o) {
-    for (int d = 0; d < q->rows; d++)
-        for (int g = 0; g < q->columns; g++) {
-            int k = d * q->columns + g;
-            u128 votes = 2 * (q->votes[k] * SQUARE), product = (u128)o->of_rows[d] * o->of_columns[g];
-            if (votes >= (2 * (u128)o->seats[k] + 1) * product)
+    for (int round = 0; moved && round < ROUNDS; round++) {
+        for (int k = 0; k < cells; k++) {
+            u128 least = least_divisor(q->votes[k], columns[k % width], o->seats[k]);
+            if (least > MOST[ROWS])
                 return 0;
-            if (o->seats[k] && (2 * (u128)o->seats[k] - 1) * product >= votes)
-                return 0;
+            if (least > rows[k / width])
+                rows[k / width] = (uint64_t)least;
         }
+        moved = 0;
+        for (int k = 0; k < cells; k++) {
+            u128 greatest = o->seats[k] ? greatest_divisor(q->votes[k], rows[k / width], o->seats[k]) : top;
+            if (greatest == 0)
+                return 0;
+            if (greatest < columns[k % width]) {
+                columns[k % width] = (uint64_t)greatest;
+                moved = 1;
+            }
+        }
+    }
     return 1;
 }
 
-/* From these columns at a smaller scale, and then from themselves. */
+/* Whether the seats follow from the divisors, none of them from a half. */
+static int is_strict(const struct question *q, const struct outcome *o) {
+    static struct outcome x;
+    x = *o;
+    return round_ways(q, &x) == 0 && x.row < 0 && memcmp(x.seats, o->seats, sizeof x.seats) == 0;
+}
+
+/* Whether the middle gives the seats, from these columns at a smaller scale, or else from themselves. */
 static int middle_gives(const struct question *q, struct outcome *o, uint64_t scale) {
-    uint64_t greatest[LINES];
-    memcpy(greatest, o->of_columns, sizeof greatest);
-    for (int g = 0; g < q->columns; g++)
-        o->of_columns[g] = greatest[g] < scale ? 1 : greatest[g] / scale;
-    middle(q, o);
+    uint64_t columns[LINES];
+    memcpy(columns, o->divisors[COLUMNS], sizeof columns);
+    for (int g = 0; g < q->lines[COLUMNS]; g++)
+        o->divisors[COLUMNS][g] = columns[g] < scale ? 1 : columns[g] / scale;
+    for (int n = 0; n < MIDDLES; n++) {
+        set_lines(q, o, ROWS, 1);
+        set_lines(q, o, COLUMNS, 1);
+    }
     if (is_strict(q, o))
         return 1;
-    memcpy(o->of_columns, greatest, sizeof greatest);
-    middle(q, o);
-    return is_strict(q, o);
+    memcpy(o->divisors[COLUMNS], columns, sizeof columns);
+    return scale > 1 && middle_gives(q, o, 1);
 }
 
 static int gives_within(const struct question *q, struct outcome *o, uint64_t top) {
-    return settle(q, o, top) != OUT && is_strict(q, o) && middle_gives(q, o, top / 1000000);
+    return settle(q, o, top) && is_strict(q, o) && middle_gives(q, o, top / ONE);
 }
 
 static int find_divisors(const struct question *q, struct outcome *o, const uint32_t *seats) {
     memcpy(o->seats, seats, sizeof o->seats);
-    return gives_within(q, o, MOST_OF_COLUMN / 1000) || gives_within(q, o, MOST_OF_COLUMN);
+    return gives_within(q, o, MOST[COLUMNS] / 1000) || gives_within(q, o, MOST[COLUMNS]);
 }
 
 /* The divisors of the decision, made easier to read where the seats still follow. */
-static int take_decided(const struct question *q, struct outcome *o, const struct decided *x) {
-    memcpy(o->of_columns, x->of_columns, sizeof o->of_columns);
-    if (middle_gives(q, o, 1000000))
-        return 1;
-    memcpy(o->of_rows, x->of_rows, sizeof o->of_rows);
-    memcpy(o->of_columns, x->of_columns, sizeof o->of_columns);
+static int take_decided(const struct question *q, struct outcome *o, const struct outcome *decided) {
+    memcpy(o->divisors, decided->divisors, sizeof o->divisors);
+    if (!middle_gives(q, o, ONE))
+        memcpy(o->divisors, decided->divisors, sizeof o->divisors);
     return 1;
 }
 
-static int are_given(const struct question *q, struct outcome *o, const struct decided *x) {
-    switch (x->decision) {
-    case SEATS:
-        return find_divisors(q, o, x->seats) || take_decided(q, o, x);
-    case NEARLY_TIED:
-        return find_divisors(q, o, x->seats) || find_divisors(q, o, x->others);
-    case BEYOND:
-        return find_divisors(q, o, x->seats);
-    case IMPOSSIBLE:
-        break;
-    }
-    return 0;
-}
-
-int find(const struct question *q, struct outcome *o, struct decided *x) {
+int find(const struct question *q, struct outcome *o) {
+    static struct outcome x;
     search(q, o);
     if (o->answer != EXHAUSTED)
         return 0;
-    decide(q, x);
-    if (!are_given(q, o, x))
-        return 0;
-    o->answer = FOUND;
-    return 1;
+    x = *o;
+    decide(q, &x);
+    int is_found = (x.answer != IMPOSSIBLE && find_divisors(q, o, x.seats)) || (x.answer == FOUND && take_decided(q, o, &x)) ||
+                   (x.answer == NEARLY_TIED && find_divisors(q, o, x.others));
+    if (is_found)
+        o->answer = FOUND;
+    else
+        *o = x;
+    return is_found;
 }

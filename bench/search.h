@@ -1,67 +1,77 @@
 /* Lower apportionment in plain C: the search for divisors and the decision, written from their rules alone.
  * They are measured against the proved ones, and show that both give the same answers. */
-#ifndef SEARCH_H
-#define SEARCH_H
+#pragma once
 
 #include <stdint.h>
 
+typedef unsigned __int128 u128;
+
 enum { LINES = 32, CELLS = LINES * LINES };
 
-/* The most of a divisor, in millionths. */
-static const uint64_t MOST_OF_ROW = 1000000000000000000, MOST_OF_COLUMN = 1000000000000;
+/* A line is a row or a column. What is kept of lines is kept of the rows first, and then of the columns. */
+enum side { ROWS, COLUMNS };
 
-enum answer { FOUND, NO_VOTES, TIED, EXHAUSTED };
+/* Divisors are in millionths. */
+static const uint64_t ONE = 1000000, MOST[2] = {1000000000000000000, 1000000000000};
 
-/* Votes row by row; what each row and each column is to get. */
+/* How many lines there are; the votes, row by row; what each line is to get. */
 struct question {
-    int rows, columns;
+    int lines[2];
     uint64_t votes[CELLS];
-    uint32_t row_totals[LINES], column_totals[LINES];
+    uint32_t totals[2][LINES];
 };
 
-/* Divisors in millionths. `row` and `column` are those of NO_VOTES and TIED, from 0. */
+enum answer { FOUND, NO_VOTES, TIED, EXHAUSTED, IMPOSSIBLE, NEARLY_TIED, BEYOND };
+
+/* `row` and `column`, from 0, are those of NO_VOTES and TIED. At a tie `seats` are the fewest and `others` the most of each cell, at
+ * a near tie both are a matrix. Rows have too few seats where it is impossible. */
 struct outcome {
     enum answer answer;
     int row, column, half_steps;
-    uint64_t of_rows[LINES], of_columns[LINES];
-    uint32_t seats[CELLS];
-};
-
-typedef unsigned __int128 u128;
-
-/* The cells rounded with halves down; which lie on a half, and which of these are rounded up. */
-struct ways {
-    u128 down[CELLS];
-    char half[CELLS], up[CELLS];
-};
-
-int round_ways(const struct question *q, const struct outcome *o, struct ways *w);
-int fill_ways(const struct question *q, struct ways *w);
-
-/* The fewest and the most seats of each cell over all distributions at a tie; how many cells these differ in. */
-int lot(const struct question *q, const struct outcome *tie, uint32_t *least, uint32_t *most);
-
-uint64_t line(int n, const uint64_t *votes, const uint64_t *others, uint32_t target, uint64_t most);
-
-/* The search, up to 1,000 rounds. */
-void search(const struct question *q, struct outcome *out);
-
-/* What is decided of a question: seats, with divisors; the other matrix of a near tie; the rows that have too few seats. */
-enum decision { SEATS, IMPOSSIBLE, NEARLY_TIED, BEYOND };
-
-struct decided {
-    enum decision decision;
+    uint64_t divisors[2][LINES];
     uint32_t seats[CELLS], others[CELLS];
-    uint64_t of_rows[LINES], of_columns[LINES];
     int too_few[LINES];
 };
 
-void decide(const struct question *q, struct decided *out);
+/* Sets the lines of a side to their middles, or those alone that are unsettled. */
+void set_lines(const struct question *q, struct outcome *o, enum side side, int all);
+
+/* The least divisor at which a cell with these votes gets no more than these seats, and the greatest at which it gets no fewer. */
+static inline u128 least_divisor(uint64_t votes, uint64_t other, uint32_t seats) {
+    return 2 * (votes * ((u128)ONE * ONE)) / ((u128)other * (2 * seats + 1)) + 1;
+}
+
+static inline u128 greatest_divisor(uint64_t votes, uint64_t other, uint32_t seats) {
+    return (2 * (votes * ((u128)ONE * ONE)) - 1) / ((u128)other * (2 * seats - 1));
+}
+
+/* The quotient of a cell, rounded half up, and whether it lies on a half. */
+static inline u128 rounded(uint64_t votes, uint64_t a, uint64_t b, int *half) {
+    u128 twice = 2 * (votes * ((u128)ONE * ONE)), product = (u128)a * b;
+    u128 quotient = (twice + product) / (2 * product);
+    *half = quotient > 0 && twice == (2 * quotient - 1) * product;
+    return quotient;
+}
+
+/* Seats that are to be placed: how many each line lacks, the most that each cell may get, and how many it has. */
+struct places {
+    uint32_t lacks[2][LINES], most[CELLS], given[CELLS];
+    char seen[LINES];
+};
+
+/* A seat for a row, and all seats that the rows lack: 0 where they can't be placed. */
+int place_one(const struct question *q, struct places *p, int d);
+int place_all(const struct question *q, struct places *p);
+
+/* Rounds the cells, halves either way, and notes the first half, or row -1, and the fewest and the most seats of each cell. In how
+ * many cells these differ, or -1 where no way meets the totals. */
+int round_ways(const struct question *q, struct outcome *o);
+
+void search(const struct question *q, struct outcome *o);
+void decide(const struct question *q, struct outcome *o);
 
 /* The search, or else seats by the decision: 1 where they are by that. */
-int find(const struct question *q, struct outcome *out, struct decided *decided);
+int find(const struct question *q, struct outcome *o);
 
 /* Seats of a house in proportion to weights; 0 where they are tied. */
 int apportion(int n, const uint64_t *weights, uint32_t house, uint32_t *seats);
-
-#endif

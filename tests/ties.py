@@ -79,7 +79,7 @@ def main(count):
     numbers, written = random.Random(1), set()
     while len(written) < count:
         asked = question(numbers)
-        if not asked or c.search(question_of_c(*asked)).answer != TIED:
+        if not asked or c.outcome("search", question_of_c(*asked)).answer != TIED:
             continue
         text = line(*asked, drawn(*asked))
         if text not in written:
