@@ -30,47 +30,38 @@ def matrices(row_totals, column_totals):
                 yield row + rest
 
 
-def product(votes, seats):
-    return math.prod(Fraction(of_cell, 2 * seat - 1) for of_cell, number in zip(votes, seats) for seat in range(1, number + 1))
-
-
 def drawn(row_totals, column_totals, votes):
     """All matrices that may be drawn."""
-    found = [(product(votes, seats), seats) for seats in matrices(row_totals, column_totals)]
-    greatest = max((value for value, _ in found), default=0)
-    return [seats for value, seats in found if value == greatest > 0]
-
-
-def parts(numbers, total, count):
-    """A total in so many parts, each at least 1."""
-    cuts = [0, *sorted(numbers.sample(range(1, total), count - 1)), total]
-    return [after - before for before, after in zip(cuts, cuts[1:])]
+    found = {}
+    for seats in matrices(row_totals, column_totals):
+        worths = (Fraction(of_cell, 2 * seat - 1) for of_cell, number in zip(votes, seats) for seat in range(1, number + 1))
+        found.setdefault(math.prod(worths), []).append(seats)
+    greatest = max(found, default=0)
+    return found[greatest] if greatest else []
 
 
 def question(numbers):
     """Totals of rows and of columns, and votes, each line with some; or none."""
     rows, columns = numbers.randint(1, 4), numbers.randint(1, 4)
     row_totals = [numbers.randint(1, 4) for _ in range(rows)]
-    if sum(row_totals) < columns or rows * columns > 9:
+    total = sum(row_totals)
+    if total < columns or rows * columns > 9:
         return None
-    column_totals = parts(numbers, sum(row_totals), columns)
+    cuts = [0, *sorted(numbers.sample(range(1, total), columns - 1)), total]
+    column_totals = [after - before for before, after in zip(cuts, cuts[1:])]
     pool = numbers.choice([[1], [1, 1, 2], [0, 1, 1], [1, 2, 3], [1, 3, 5, 15], [2, 6, 10]])
     votes = [numbers.choice(pool) for _ in range(rows * columns)]
-    if not all(any(votes[row * columns:(row + 1) * columns]) for row in range(rows)):
-        return None
-    if not all(any(votes[column::columns]) for column in range(columns)):
-        return None
-    return row_totals, column_totals, votes
+    lines = [votes[row * columns:(row + 1) * columns] for row in range(rows)] + [votes[column::columns] for column in range(columns)]
+    return (row_totals, column_totals, votes) if all(map(any, lines)) else None
 
 
 def line(row_totals, column_totals, votes, found):
+    """The line of a case that asks for the lot, with the fewest and the most seats of each cell."""
     columns = len(column_totals)
-    asked = ["rows " + " ".join(map(str, row_totals)), "columns " + " ".join(map(str, column_totals))]
-    for place in range(0, len(votes), columns):
-        asked.append("votes " + " ".join(map(str, votes[place:place + columns])))
-    cells = list(zip(*found))
-    ranges = listed("least", [min(cell) for cell in cells], columns) + "; " + listed("most", [max(cell) for cell in cells], columns)
-    return f"lot {', '.join(asked)} -> {ranges}"
+    rows = (["votes", *votes[place:place + columns]] for place in range(0, len(votes), columns))
+    asked = ", ".join(" ".join(map(str, it)) for it in (["rows", *row_totals], ["columns", *column_totals], *rows))
+    least, most = (listed(word, [of(cell) for cell in zip(*found)], columns) for word, of in (("least", min), ("most", max)))
+    return f"lot {asked} -> {least}; {most}"
 
 
 def main(count):
@@ -79,12 +70,11 @@ def main(count):
     numbers, written = random.Random(1), set()
     while len(written) < count:
         asked = question(numbers)
-        if not asked or c.outcome("search", question_of_c(*asked)).answer != TIED:
-            continue
-        text = line(*asked, drawn(*asked))
-        if text not in written:
+        if asked and c.outcome("search", question_of_c(*asked)).answer == TIED:
+            text = line(*asked, drawn(*asked))
+            if text not in written:
+                print(text)
             written.add(text)
-            print(text)
 
 
 if __name__ == "__main__":
