@@ -45,8 +45,12 @@ class Desk:
             for row in rows:
                 self.enter(*row)
         self.say(f"close {municipality}")
-        if self.chance.once_in(9):
-            self.correct(*self.chance.shuffled(rows)[0])
+        if self.chance.once_in(9):  # a correction comes when the municipality is closed already
+            _, group, votes = self.chance.shuffled(rows)[0]
+            self.moment += self.chance.between(1, 30)
+            self.say(f"return {municipality} {group} {self.sent[municipality, group] + 1} {votes + 4}", f"reopen {municipality}")
+            self.send(municipality, group, votes + 4)
+            self.say(f"close {municipality}")
 
     def enter(self, municipality, group, votes):
         """A return, with the mistakes that people make."""
@@ -71,7 +75,7 @@ class Desk:
             self.say(f"row {municipality} {group} 2 {votes}", "commit", f"show {municipality} {group}", "drop")
         self.batch(rows)
         self.say("commit")
-        self.sent |= {row[:2]: 1 for row in rows}
+        self.sent.update({row[:2]: 1 for row in rows})
 
     def batch(self, rows):
         self.say("open")
@@ -80,21 +84,9 @@ class Desk:
             row = f"row {municipality} {group} 1 {votes}"
             self.say(*[row] * (1 + self.chance.once_in(50)))  # at times the same row once more
 
-    def correct(self, municipality, group, votes):
-        """A correction comes when the municipality is closed already."""
-        self.moment += self.chance.between(1, 30)
-        self.say(f"return {municipality} {group} {self.sent[municipality, group] + 1} {votes + 4}", f"reopen {municipality}")
-        self.send(municipality, group, votes + 4)
-        self.say(f"close {municipality}")
-
     def withdraw(self, municipality, group):
         self.sent[municipality, group] += 1
         self.say(f"withdraw {municipality} {group} {self.sent[municipality, group]}")
-
-    def confuse(self, municipality, other):
-        """The first return of a municipality is entered for another one, and taken back there."""
-        self.send(other, 1, self.canton.votes[municipality, 1])
-        self.withdraw(other, 1)
 
 
 def desks_of(canton, chance):
@@ -102,16 +94,19 @@ def desks_of(canton, chance):
     queues = {number: [] for number in DESKS}
     for moment, m in sorted((chance.between(30, 950), m) for m in canton.municipalities()):  # as returns arrive
         queues[1 + (m - 1) * len(DESKS) // len(canton.names)].append((moment, m))
-    for number, queue in queues.items():
-        for place, (moment, m) in enumerate(queue):
-            if number == 3 and place == 4:
-                desks[3].moment = max(desks[3].moment + 1, moment)
-                desks[3].confuse(m, queue[place + 1][1])
-            desks[number].take(m, moment)
-            if number == 2 and place == 5:  # a list turns out not to stand there any more
-                desks[2].say(f"reopen {m}")
-                desks[2].withdraw(m, len(canton.lists_in(m)))
-                desks[2].say(f"show {m} {len(canton.lists_in(m))}", f"close {m}")
+    for number, desk in desks.items():
+        for place, (moment, m) in enumerate(queues[number]):
+            if (number, place) == (3, 4):  # a return is entered for another municipality, and taken back there
+                other = queues[number][place + 1][1]
+                desk.moment = max(desk.moment + 1, moment)
+                desk.send(other, 1, canton.votes[m, 1])
+                desk.withdraw(other, 1)
+            desk.take(m, moment)
+            if (number, place) == (2, 5):  # a list turns out not to stand there any more
+                group = len(canton.lists_in(m))
+                desk.say(f"reopen {m}")
+                desk.withdraw(m, group)
+                desk.say(f"show {m} {group}", f"close {m}")
     return desks
 
 
@@ -124,40 +119,35 @@ def lost_batch(lines):
     return [] if begun is None else lines[begun:]
 
 
-def again(stop, early, late):
-    """What a desk sends first after the stop: a lost batch from its beginning, or else its last line."""
-    lost = lost_batch(early)
-    return [(stop, line) for _, line in (late[:1] + lost if lost else early[-1:])]
-
-
-def split(desk, moment):
-    """The lines of a desk before a moment, and those from it on."""
-    return [line for line in desk.lines if line[0] < moment], [line for line in desk.lines if line[0] >= moment]
+def split(lines, moment):
+    """The lines before a moment, and those from it on."""
+    return [it for it in lines if it[0] < moment], [it for it in lines if it[0] >= moment]
 
 
 def merged(desks):
-    """The lines before the stop and after it, in the order in which they arrive. The stop breaks a batch."""
+    """The lines before the stop, which breaks a batch, and after it, in the order in which they arrive. After it a desk first sends a lost
+    batch from its beginning, or else its last line."""
     stop = next(moment for moment in range(EARLIEST_STOP, LATEST_STOP)
-                if any(lost_batch(split(desk, moment)[0]) for desk in desks.values()))
-    before = [(moment, 1, "1 sheet") for moment in SHEETS if moment < stop]
-    after = [(moment, 1, "1 sheet") for moment in SHEETS if moment >= stop]
+                if any(lost_batch(split(desk.lines, moment)[0]) for desk in desks.values()))
+    before, after = split([(moment, 1, "1 sheet") for moment in SHEETS], stop)
     for number, desk in desks.items():
-        early, late = split(desk, stop)
+        early, late = split(desk.lines, stop)
+        lost = lost_batch(early)
+        again = late[:1] + lost if lost else early[-1:]
         before += [(moment, number, line) for moment, line in early]
-        after += [(moment, number, line) for moment, line in again(stop, early, late) + late]
+        after += [(stop, number, line) for _, line in again] + [(moment, number, line) for moment, line in late]
     return [[line for _, _, line in sorted(lines, key=lambda it: it[:2])] for lines in (before, after)]
 
 
 def main(folder, seed=SEED):
     chance = Chance(int(seed))
     canton = Canton(chance)
-    office = Office(canton)
-    folder = pathlib.Path(folder)
+    office, folder = Office(canton), pathlib.Path(folder)
     (folder / "setup.toml").write_text(canton.setup())
-    for name, lines in zip(("evening", "night"), merged(desks_of(canton, chance))):
-        lines += ["1 final"] if name == "night" else []
-        (folder / name).write_text("".join(line + "\n" for line in lines))
-        (folder / f"{name}.replies").write_text("".join(office.answer(line) + "\n" for line in lines))
+    evening, night = merged(desks_of(canton, chance))
+    for name, lines in (("evening", evening), ("night", [*night, "1 final"])):
+        (folder / name).write_text("".join(f"{line}\n" for line in lines))
+        (folder / f"{name}.replies").write_text("".join(f"{office.answer(line)}\n" for line in lines))
         office.stop()
 
 

@@ -29,24 +29,21 @@ class Office:
             return "refused stale"
         return "" if number == held[0] + 1 else "refused gap"
 
-    def put(self, municipality, group, number, votes):
+    def put(self, municipality, group, number, votes=None):
         answer = self.judge(municipality, group, number, votes)
         if answer:
             return answer
         self.held[municipality, group] = number, votes
         return self.store()
 
-    def on_return(self, _desk, municipality, group, number, votes):
-        return self.put(municipality, group, number, votes)
+    def on_return(self, _desk, *entry):
+        return self.put(*entry)
 
-    def on_withdraw(self, _desk, municipality, group, number):
-        return self.put(municipality, group, number, None)
+    on_withdraw = on_return
 
-    def on_show(self, _desk, municipality, group):
-        if (municipality, group) not in self.held:
-            return "none"
-        number, votes = self.held[municipality, group]
-        return f"shows {number} {'withdrawn' if votes is None else votes}"
+    def on_show(self, _desk, *at):
+        number, votes = self.held.get(at, (0, None))
+        return f"shows {number} {'withdrawn' if votes is None else votes}" if number else "none"
 
     def on_close(self, _desk, municipality):
         if municipality in self.closed:
@@ -85,22 +82,19 @@ class Office:
         for answer in answers.values():
             if answer.startswith("refused"):
                 return answer
-        self.held |= {row[:2]: row[2:] for row, answer in answers.items() if not answer}
+        self.held.update({row[:2]: row[2:] for row, answer in answers.items() if not answer})
         del self.batches[desk]
         return self.store() if "" in answers.values() else "same"
 
     def on_sheet(self, _desk):
         """The first line of a sheet; or that a constituency has no votes yet."""
-        for d in sorted(set(self.canton.constituency_of)):
-            if not any(votes for (m, _), (_, votes) in self.held.items() if self.canton.constituency_of[m - 1] == d):
-                return f"refused novotes {d}"
-        return f"sheet provisional {self.commands}"
+        having = {self.canton.constituency_of[m - 1] for (m, _), (_, votes) in self.held.items() if votes}
+        without = sorted({*self.canton.constituency_of} - having)
+        return f"refused novotes {without[0]}" if without else f"sheet provisional {self.commands}"
 
     def on_final(self, _desk):
-        for municipality in self.canton.municipalities():
-            if municipality not in self.closed:
-                return f"refused notclosed {municipality}"
-        return self.on_sheet(_desk).replace("provisional", "final")
+        first = next((it for it in self.canton.municipalities() if it not in self.closed), None)
+        return f"refused notclosed {first}" if first else self.on_sheet(_desk).replace("provisional", "final")
 
     def export(self):
         """What `export` writes."""
