@@ -16,11 +16,7 @@ class Preloaded:
         """A run with this file as its input, where what `fails` says does; is_reached: it came to that."""
         reached = self.room / "reached"
         reached.unlink(missing_ok=True)
-        with open(self.room / given, "rb") as lines, open(self.room / "out", "w+b") as out, open(self.room / "said", "w+b") as said:
+        with open(self.room / given, "rb") as lines:
             ran = subprocess.run(words, cwd=self.room, env={**self.environment, **{name: str(it) for name, it in fails.items()}},
-                                 stdin=lines, stdout=out, stderr=said)
-            texts = []
-            for it in (out, said):
-                it.seek(0)
-                texts.append(it.read().decode(errors="replace"))
-        return Run(ran.returncode, *texts, reached.exists())
+                                 stdin=lines, capture_output=True)
+        return Run(ran.returncode, *(it.decode(errors="replace") for it in (ran.stdout, ran.stderr)), reached.exists())

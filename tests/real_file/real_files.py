@@ -4,9 +4,8 @@ import os
 import random
 import subprocess
 from contextlib import contextmanager
-from dataclasses import dataclass
 from pathlib import Path
-from typing import Iterator, Optional, Sequence, Tuple, Union
+from typing import Iterator, NamedTuple, Optional, Sequence, Tuple, Union
 
 from places import REHEARSAL
 
@@ -14,19 +13,22 @@ from places import REHEARSAL
 DISK, JOURNAL, PAGE = 1118720, 332032, 256
 SEED = int(os.environ.get("SEED", "20270404"))
 PATIENCE = 600  # seconds: no test is about time, and a machine may have other work
-Task = Union[str, Sequence[str]]
-# The streams of a run that are closed or full, as a shell spells them.
-CLOSED = "<&- >&- 2>&-"
+Ran = NamedTuple("Ran", [("status", int), ("out", str), ("said", str)])
+
+
+def bash(script: str) -> Tuple[str, ...]:
+    """The words before a command that this script runs as "$@"."""
+    return "bash", "-c", script, "bash"
 
 
 def closed(streams: str) -> Tuple[str, ...]:
     """The words before a command that is run with these redirections."""
-    return "bash", "-c", f'exec "$@" {streams}', "bash"
+    return bash(f'exec "$@" {streams}')
 
 
 def limited(kibibytes: int) -> Tuple[str, ...]:
     """The words before a command for which no file grows beyond so many: a write there fails."""
-    return "bash", "-c", f"trap '' XFSZ; ulimit -f {kibibytes}; exec \"$@\"", "bash"
+    return bash(f"trap '' XFSZ; ulimit -f {kibibytes}; exec \"$@\"")
 
 
 def returns(municipality: int, first: int, last: int) -> str:
@@ -43,13 +45,6 @@ def shows(number: int) -> str:
     return f"1 shows {number} {7 * number}\n" if number else "1 none\n"
 
 
-@dataclass
-class Ran:
-    status: int
-    out: str
-    said: str
-
-
 class Room:
     """A folder with a folder `kinds` in it."""
 
@@ -58,29 +53,23 @@ class Room:
         self.chance = random.Random(SEED)
         (path / "kinds").mkdir()
 
-    def words(self, task: Task, setup: Optional[str] = None) -> Sequence[str]:
+    def words(self, task: Union[str, Sequence[str]], setup: Optional[str] = None) -> Sequence[str]:
         """The arguments of a task, a text with blanks between them or a list, with the set-up."""
         name, *rest = task.split() if isinstance(task, str) else task
         return [str(self.program), name, "--setup", setup or self.setup, *rest]
 
-    def run(self, task: Task, lines: str = "", before: Sequence[str] = (), setup: Optional[str] = None, out: Optional[str] = None) -> Ran:
-        """What a task does with these lines as its input. `before` are words before the command; the output may go to a file."""
-        with open(self.path / (out or "out"), "wb") as written:
-            ran = subprocess.run([*before, *self.words(task, setup)], cwd=self.path, input=lines.encode(), stdout=written,
+    def run(self, task: Union[str, Sequence[str]], lines: str = "", before: Sequence[str] = (), setup: Optional[str] = None) -> Ran:
+        """What a task does with these lines as its input, and its output in a file. `before` are words before the command."""
+        with open(self.path / "out", "wb") as out:
+            ran = subprocess.run([*before, *self.words(task, setup)], cwd=self.path, input=lines.encode(), stdout=out,
                                  stderr=subprocess.PIPE, timeout=PATIENCE)
-        return Ran(ran.returncode, (self.path / (out or "out")).read_bytes().decode(errors="replace"), ran.stderr.decode(errors="replace"))
+        return Ran(ran.returncode, *(it.decode(errors="replace") for it in ((self.path / "out").read_bytes(), ran.stderr)))
 
-    def ends(self, task: Task, status: int = 0, fault: str = "", out: Optional[str] = "", **how) -> Ran:
-        """A task that ends with this status, this fault, or none, and this output, or any."""
+    def ends(self, task: Union[str, Sequence[str]], status: int = 0, fault: str = "", out: Optional[str] = "", **how) -> str:
+        """The output of a task that ends with this status, this fault, or none, and this output, or any."""
         ran = self.run(task, **how)
-        wanted = Ran(status, ran.out if out is None else out, f"zhcount: {fault}\n" if fault else "")
-        assert ran == wanted, f"{task}: {ran}"
-        return ran
-
-    def new_disk(self, path: str) -> None:
-        """A new disk, and nothing else."""
-        (self.path / path).unlink(missing_ok=True)
-        self.ends(["format", "--disk", path])
+        assert ran == (status, ran.out if out is None else out, f"zhcount: {fault}\n" if fault else ""), f"{task}: {ran}"
+        return ran.out
 
     def serves(self, disk: str, lines: str, replies: str) -> None:
         self.ends(["run", "--disk", disk], out=replies, lines=lines)
@@ -90,6 +79,11 @@ class Room:
         self.ends(["format", "--disk", path])
         self.serves(path, "1 show 1 1\n1 return 1 1 1 7\n", "1 none\n1 stored 1\n")
 
+    def has_its_space(self, path: str) -> bool:
+        """Whether the file has the length of a disk, and blocks for all of it."""
+        found = (self.path / path).stat()
+        return found.st_size == DISK <= found.st_blocks * 512
+
     @contextmanager
     def untouched(self, path: str = "d") -> Iterator[None]:
         """What is done within it leaves the file as it is."""
@@ -97,15 +91,5 @@ class Room:
         yield
         assert (self.path / path).read_bytes() == before, path
 
-    def names(self, path: str = "kinds") -> Sequence[str]:
-        return sorted(it.name for it in (self.path / path).iterdir())
-
-    def length(self, path: str) -> int:
-        return (self.path / path).stat().st_size
-
-    def put(self, path: str, old: str, new: str, to: str) -> str:
-        """A set-up that differs: its path."""
-        text = Path(path).read_text()
-        assert old in text
-        (self.path / to).write_text(text.replace(old, new))
-        return to
+    def names(self) -> Sequence[str]:
+        return sorted(it.name for it in (self.path / "kinds").iterdir())

@@ -3,51 +3,36 @@ closed at each byte, in turn (tests/refuse.c)."""
 import itertools
 import os
 import re
-import subprocess
 
 import pytest
 
-from places import PROGRAM, REHEARSAL
+from real_files import Room
 from refusing import Preloaded
 
-VOTES = {(1, 1): 525, (1, 2): 300, (1, 3): 175, (2, 1): 240, (2, 2): 330, (2, 3): 30, (3, 1): 90, (3, 2): 60, (3, 3): 50}
+VOTES = [525, 300, 175, 240, 330, 30, 90, 60, 50]  # of three lists in three municipalities
 HEAD = "municipality,list,number,votes\n"
-LENGTH = 1118720  # of a disk (docs/FORMATS.md)
 FORMAT, DISK = "format --disk kinds/d", "--disk kinds/d"
 OPENED = ["setup file", "disk device"]  # the faults of the files that are opened first
 NO_MEMORY = "zhcount: memory\n"
 REMARK = "zhcount: rehearsal, nothing is kept\n"
 
 
-class Folder(Preloaded):
+class Folder(Room):
     """A folder with a disk, `kinds/d`, and the sheet and the rows of its returns. `before` are the disk's bytes; None: it is not there."""
 
-    def __init__(self, library, room):
-        super().__init__(library, room)
-        self.disk, self.before = room / "kinds/d", None
-        self.clear()
-        self.task(FORMAT)
-        returns = "".join(f"1 return {municipality} {group} 1 {votes}\n" for (municipality, group), votes in VOTES.items())
-        lines = self.task(f"run {DISK}", returns + "1 sheet\n").splitlines(keepends=True)[len(VOTES):]
-        assert len(lines) == 20
-        self.write("sheet", *lines)
-        self.write("held.csv", self.task(f"export {DISK}"))
+    def __init__(self, library, program, path):
+        super().__init__(program, path)
+        self.preloaded, self.disk, self.before = Preloaded(library, path), path / "kinds/d", None
+        self.ends(FORMAT)
+        returns = "".join(f"1 return {1 + k // 3} {1 + k % 3} 1 {votes}\n" for k, votes in enumerate(VOTES))
+        answers = self.ends(f"run {DISK}", out=None, lines=returns + "1 sheet\n").splitlines(keepends=True)
+        assert len(answers) == len(VOTES) + 20
+        (path / "sheet").write_text("".join(answers[len(VOTES):]))
+        (path / "held.csv").write_text(self.ends(f"export {DISK}", out=None))
         self.before = self.disk.read_bytes()
 
-    def write(self, name, *texts):
-        (self.room / name).write_text("".join(texts))
-
-    def task(self, task, given=""):
-        """What a task says, which ends well."""
-        ran = self.ran(task, given)
-        assert (ran.returncode, ran.stderr) == (0, ""), f"{task}: {ran}"
-        return ran.stdout
-
-    def ran(self, task, given=""):
-        return subprocess.run([PROGRAM, *task.split(), "--setup", REHEARSAL], cwd=self.room, input=given, capture_output=True, text=True)
-
     def failing(self, task, given=os.devnull, **fails):
-        return self.run(PROGRAM, *task.split(), "--setup", REHEARSAL, given=given, **fails)
+        return self.preloaded.run(*self.words(task), given=given, **fails)
 
     def clear(self):
         """Leaves nothing but the disk."""
@@ -77,20 +62,10 @@ class Folder(Preloaded):
     def is_as_before(self):
         return self.disk.read_bytes() == self.before
 
-    def has_its_space(self):
-        """Whether the file has the length of a disk, and blocks for all of it."""
-        found = self.disk.stat()
-        return found.st_size == LENGTH <= found.st_blocks * 512
-
-    def takes_a_new_disk(self):
-        """What a format left that did not end is taken by the next one."""
-        self.task(FORMAT)
-        return self.task(f"run {DISK}", "1 show 1 1\n1 return 1 1 1 7\n") == "1 none\n1 stored 1\n"
-
 
 @pytest.fixture
 def folder(library, program, tmp_path):
-    return Folder(library, tmp_path)
+    return Folder(library, program, tmp_path)
 
 
 @pytest.mark.parametrize("task", [
@@ -101,26 +76,29 @@ def folder(library, program, tmp_path):
 ])
 def test_allocation_is_refused(task, folder):
     """The fault is memory, and the disk is untouched."""
-    folder.write("lines", "1 show 1 1\n")
-    folder.write("returns.csv", HEAD, "1,1,2,14\n2,2,2,15\n")
+    (folder.path / "lines").write_text("1 show 1 1\n")
+    (folder.path / "returns.csv").write_text(HEAD + "1,1,2,14\n2,2,2,15\n")
     # there is no room for the rows of a file, nor for a search
     faults = [NO_MEMORY, {"load": "refused memory\n", "seats": "zhcount: refused memory\n"}.get(task.split()[0])]
     if task == FORMAT:
         folder.before = None
     for number, it in folder.each_failing("REFUSE", task):
         assert it.status == 1 and it.out + it.said in faults, f"without allocation {number}: {it}"
-        assert folder.is_as_before() if folder.before else folder.takes_a_new_disk(), f"the disk without allocation {number}"
+        if folder.before:
+            assert folder.is_as_before(), f"the disk without allocation {number}"
+        else:
+            folder.takes_a_new_disk("kinds/d")
 
 
 def test_allocation_is_refused_to_a_rehearsal(folder):
     """Its disk is in memory: a refused allocation is a fault of the disk while lines are answered, and `memory` before."""
-    folder.write("lines", "1 return 1 1 1 525\n1 show 1 1\n")
+    (folder.path / "lines").write_text("1 return 1 1 1 525\n1 show 1 1\n")
     ends = {(1, "", NO_MEMORY), (1, "", REMARK + NO_MEMORY),
             (1, "1 refused device\n1 refused reopen-disk\n", f"{REMARK}zhcount: disk device\n")}
     whole = (0, "1 stored 1\n1 shows 1 525\n", REMARK)
     refused = 0
     for number in itertools.count(1):
-        it = folder.run(PROGRAM, given="lines", REFUSE=number)
+        it = folder.preloaded.run(folder.program, given="lines", REFUSE=number)
         assert it[:3] == whole or it.is_reached and it[:3] in ends, f"without allocation {number}: {it}"
         refused += it.status
         if not it.is_reached:
@@ -139,8 +117,8 @@ def test_allocation_is_refused_to_a_rehearsal(folder):
 def test_call_fails(task, faults, replies, folder):
     """The task says nothing, or one of these replies, and these faults come, in this order. Then the disk is as it was, or, of a task that
     stores, holds the return."""
-    folder.write("lines", "1 return 1 1 2 530\n")
-    folder.write("returns.csv", HEAD, "1,1,2,530\n")
+    (folder.path / "lines").write_text("1 return 1 1 2 530\n")
+    (folder.path / "returns.csv").write_text(HEAD + "1,1,2,530\n")
     found = []
     for number, it in folder.each_failing("FAIL", task):
         said = it.said.splitlines()
@@ -150,7 +128,8 @@ def test_call_fails(task, faults, replies, folder):
         assert len(said) == 2 or it.out and not said, f"without call {number}: {it}"
         assert not re.search(": (there is|is a)", it.said), f"a call that failed is no missing file, nor a folder: {it}"
         if replies:
-            assert folder.task(f"run {DISK}", "1 show 1 1\n") in ("1 shows 1 525\n", "1 shows 2 530\n"), f"after {number} calls"
+            shown = folder.ends(f"run {DISK}", out=None, lines="1 show 1 1\n")
+            assert shown in ("1 shows 1 525\n", "1 shows 2 530\n"), f"after {number} calls"
         else:
             assert folder.is_as_before(), f"the disk without call {number}"
     assert [it.removeprefix("zhcount: ") for it, _ in itertools.groupby(found)] == faults
@@ -166,10 +145,9 @@ def test_call_of_a_format_fails(folder):
         if folder.disk.exists():
             is_empty = folder.disk.stat().st_size == 0
             emptied += is_empty
-            assert is_empty or folder.has_its_space(), f"after call {number}"
-        again = folder.ran(FORMAT)
-        assert (again.returncode, again.stderr) in ((0, ""), (1, "zhcount: disk inuse\nkinds/d\n")), f"a format after call {number}"
-        assert folder.has_its_space(), f"after call {number}, and a format"
+            assert is_empty or folder.has_its_space("kinds/d"), f"after call {number}"
+        assert folder.run(FORMAT) in ((0, "", ""), (1, "", "zhcount: disk inuse\nkinds/d\n")), f"a format after call {number}"
+        assert folder.has_its_space("kinds/d"), f"after call {number}, and a format"
     assert emptied > 100
 
 
@@ -182,8 +160,8 @@ def test_call_of_a_format_fails(folder):
 ])
 def test_stream_is_closed(task, status, folder):
     """Of the output a front comes, and the fault is write. Standard error changes neither output nor status."""
-    folder.write("refused.csv", HEAD, "1,1,1,14\n")
-    folder.write("wrong", (folder.room / "sheet").read_text().replace("\nhouse 10\n", "\nhouse 11\n"))
+    (folder.path / "refused.csv").write_text(HEAD + "1,1,1,14\n")
+    (folder.path / "wrong").write_text((folder.path / "sheet").read_text().replace("\nhouse 10\n", "\nhouse 11\n"))
     whole = folder.failing(task)
     assert whole.status == status and whole.out + whole.said
     for length in range(len(whole.out)):

@@ -31,25 +31,24 @@ def killed(room: Room, is_answered: bool, span: float) -> Tuple[str, str]:
 
 
 @pytest.mark.long
-def test_run(room: Room) -> None:
+def test_run(disk: Room) -> None:
     """What is held after each kill are the returns that were answered, and at most one more. There are more kills where few of them are
     between two answers, as on a busy machine."""
-    room.new_disk("d")
     begun = time.monotonic()
-    room.run("run --disk d", lines=spaced(1, 300))
-    span, held, between = min(time.monotonic() - begun, 0.1), 1000, 0
-    for kill in range(MOST):
-        if kill >= KILLS and between >= BETWEEN:
-            break
+    disk.run("run --disk d", lines=spaced(1, 300))
+    span, held, between, kills = min(time.monotonic() - begun, 0.1), 1000, 0, 0
+    while kills < KILLS or between < BETWEEN and kills < MOST:
         if held >= 500:
-            room.new_disk("d")
+            (disk.path / "d").unlink()
+            disk.ends("format --disk d")
             held = 0
-        (room.path / "lines").write_text(spaced(held + 1, 1000))
-        out, said = killed(room, kill % 2 == 0, span)
+        (disk.path / "lines").write_text(spaced(held + 1, 1000))
+        out, said = killed(disk, kills % 2 == 0, span)
         answered = held + out.count("stored")
-        assert (out, said) == (stored(held + 1, answered), ""), f"kill {kill}, seed {SEED}"
+        assert (out, said) == (stored(held + 1, answered), ""), f"kill {kills}, seed {SEED}"
         between += held < answered < 1000
-        shown = room.ends("run --disk d", out=None, lines="1 show 1 1\n").out
-        assert shown in (shows(answered), shows(answered + 1)), f"kill {kill}, seed {SEED}"
+        shown = disk.ends("run --disk d", out=None, lines="1 show 1 1\n")
+        assert shown in (shows(answered), shows(answered + 1)), f"kill {kills}, seed {SEED}"
         held = answered + (shown != shows(answered))
+        kills += 1
     assert between >= BETWEEN, f"only {between} kills were between two answers, within {span} s"

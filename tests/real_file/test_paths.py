@@ -1,11 +1,13 @@
 """Files that are no disks, links, files beside the disk, and what can't be read or made."""
 import os
+import shutil
+import subprocess
 from pathlib import Path
 from typing import Sequence
 
 import pytest
 
-from real_files import DISK, Room, returns, shows
+from real_files import DISK, Room, bash, returns, shows, stored
 
 ONE_NAME = "it or its companion is no file with one name"
 GONE = "there is no such file"
@@ -14,12 +16,7 @@ GONE = "there is no such file"
 def refused(room: Room, path: str, why: str, fault: str = "disk device") -> None:
     """Neither task takes the file, and both leave it as it is."""
     def look() -> Sequence:
-        try:
-            it = os.lstat(room.path / path)
-            found = [it.st_mode, it.st_size, it.st_nlink, it.st_mtime_ns]
-        except (FileNotFoundError, NotADirectoryError):
-            found = []
-        return [found, room.names()]
+        return subprocess.run(["stat", "-c", "%f %s %h %y", path], cwd=room.path, capture_output=True).stdout, room.names()
 
     before = look()
     for task in ("run", "format"):
@@ -28,15 +25,15 @@ def refused(room: Room, path: str, why: str, fault: str = "disk device") -> None
 
 
 def test_format_and_run_make_a_disk_and_nothing_beside_it(room: Room) -> None:
-    room.new_disk("kinds/d")
-    assert room.length("kinds/d") == DISK
-    room.serves("kinds/d", returns(1, 1, 3), "1 stored 1\n1 stored 2\n1 stored 3\n")
+    room.ends("format --disk kinds/d")
+    assert (room.path / "kinds/d").stat().st_size == DISK
+    room.serves("kinds/d", returns(1, 1, 3), stored(1, 3))
     room.serves("kinds/d", "1 show 1 1\n", shows(3))
     assert room.names() == ["d"]
 
 
 def test_format_leaves_a_disk_that_is_in_use(room: Room) -> None:
-    room.new_disk("d")
+    room.ends("format --disk d")
     with room.untouched():
         room.ends("format --disk d", 1, "disk inuse\nd")
     room.serves("d", returns(1, 1, 1), "1 stored 1\n")
@@ -44,7 +41,7 @@ def test_format_leaves_a_disk_that_is_in_use(room: Room) -> None:
         room.ends("format --disk d", 1, "disk inuse\nd")
 
 
-def test_a_folder_a_fifo_and_a_device_are_refused(room: Room) -> None:
+def test_what_is_no_disk_is_refused(room: Room) -> None:
     kinds = room.path / "kinds"
     (kinds / "folder").mkdir()
     os.mkfifo(kinds / "fifo")
@@ -53,10 +50,13 @@ def test_a_folder_a_fifo_and_a_device_are_refused(room: Room) -> None:
     for path, why in (("kinds/folder", "is a folder"), ("kinds/fifo", "is no ordinary file"), ("/dev/null", "is no ordinary file"),
                       ("kinds/link", GONE), ("kinds/none/d", GONE), ("kinds/file/d", "a part of its path is no folder")):
         refused(room, path, why)
+    for length in (1, DISK - 1, DISK + 1, 2 * DISK):
+        (kinds / "file").write_bytes(bytes(length))
+        refused(room, "kinds/file", f"{length} bytes instead of {DISK}", "disk size")
 
 
 def test_a_file_with_a_second_name_is_refused(room: Room) -> None:
-    room.new_disk("kinds/d")
+    room.ends("format --disk kinds/d")
     os.link(room.path / "kinds/d", room.path / "kinds/other")
     with room.untouched("kinds/d"):
         refused(room, "kinds/d", ONE_NAME)
@@ -66,7 +66,7 @@ def test_a_file_with_a_second_name_is_refused(room: Room) -> None:
 
 
 def test_a_link_leads_to_its_disk(room: Room) -> None:
-    room.new_disk("kinds/d")
+    room.ends("format --disk kinds/d")
     (room.path / "link").symlink_to("kinds/d")
     room.serves("link", returns(1, 1, 1), "1 stored 1\n")
     assert room.names() == ["d"]
@@ -74,24 +74,10 @@ def test_a_link_leads_to_its_disk(room: Room) -> None:
     assert (room.names(), os.readlink(room.path / "link")) == (["d"], "kinds/d")
 
 
-@pytest.mark.parametrize("length", [1, DISK - 1, DISK + 1, 2 * DISK])
-def test_a_file_of_another_length_is_refused(length: int, room: Room) -> None:
-    (room.path / "kinds/d").write_bytes(bytes(length))
-    with room.untouched("kinds/d"):
-        refused(room, "kinds/d", f"{length} bytes instead of {DISK}", "disk size")
-
-
-def test_an_empty_file_is_taken_by_format_alone(room: Room) -> None:
-    (room.path / "d").touch()
-    room.ends("run --disk d", 1, f"disk size\nd: 0 bytes instead of {DISK}")
-    assert room.length("d") == 0
-    room.takes_a_new_disk("d")
-
-
 def test_files_beside_the_disk(room: Room) -> None:
     """A stop may leave the empty file that an opening makes beside the disk. One that holds something stays."""
+    room.ends("format --disk kinds/d")
     wal, journal = room.path / "kinds/d-wal", room.path / "kinds/d-journal"
-    room.new_disk("kinds/d")
     wal.touch()
     room.serves("kinds/d", returns(1, 1, 1), "1 stored 1\n")
     assert room.names() == ["d"]
@@ -114,10 +100,9 @@ def test_files_beside_the_disk(room: Room) -> None:
 def test_a_name_of_247_bytes_is_a_disk_and_a_longer_one_is_not(room: Room) -> None:
     """Beside a name there has to be one with -journal."""
     name = f"kinds/{'x' * 247}"
-    room.new_disk(name)
-    room.serves(name, returns(1, 1, 1), "1 stored 1\n")
+    room.takes_a_new_disk(name)
     room.ends(["format", "--disk", f"{name}x"], 1, f"disk device\n{name}x: the name is too long")
-    assert room.length(f"{name}x") == 0
+    assert os.path.getsize(room.path / f"{name}x") == 0
     os.truncate(room.path / f"{name}x", DISK)
     refused(room, f"{name}x", "the name is too long")
 
@@ -131,7 +116,7 @@ def test_no_task_makes_a_file_that_is_missing(task: str, room: Room) -> None:
 
 def test_a_disk_that_is_made_is_for_its_owner_alone(room: Room) -> None:
     """A file that is there keeps its mode."""
-    room.ends("format --disk kinds/d", before=("bash", "-c", 'umask 0; exec "$@"', "bash"))
+    room.ends("format --disk kinds/d", before=bash('umask 0; exec "$@"'))
     room.serves("kinds/d", returns(1, 1, 1), "1 stored 1\n")
     empty = room.path / "kinds/empty"
     empty.touch()
@@ -140,51 +125,38 @@ def test_a_disk_that_is_made_is_for_its_owner_alone(room: Room) -> None:
     assert [oct((room.path / "kinds" / it).stat().st_mode & 0o777) for it in ("d", "empty")] == ["0o600", "0o640"]
 
 
-def test_a_disk_that_is_made_is_of_zeros(room: Room) -> None:
-    room.new_disk("d")
-    (room.path / "zeroed").write_bytes(bytes(DISK))
-    room.ends("format --disk zeroed")
-    assert (room.path / "zeroed").read_bytes() == (room.path / "d").read_bytes()
-
-
-def test_no_permission_for_a_file_or_its_folder(room: Room, other_user: Sequence[str]) -> None:
+def test_no_permission_for_a_file_or_its_folder(room: Room) -> None:
+    """Without the rights of root, who takes another user for it."""
+    as_other = ["setpriv", "--reuid=65534", "--regid=65534", "--clear-groups"] if os.getuid() == 0 else []
+    if as_other and (not shutil.which("setpriv") or subprocess.run([*as_other, "true"], stderr=subprocess.DEVNULL).returncode):
+        pytest.skip("as root, and no other user can be taken")
+    for it in [room.path, *room.path.parents]:
+        if not it.stat().st_mode & 1:
+            it.chmod(it.stat().st_mode | 0o111)
     kinds = room.path / "kinds"
-    for it in (room.program, Path(room.setup)):
-        (kinds / it.name).write_bytes(it.read_bytes())
-        (kinds / it.name).chmod(0o755)
-    room.program, room.setup = kinds / room.program.name, f"kinds/{Path(room.setup).name}"
     kinds.chmod(0o755)
+    room.program = Path(shutil.copy(room.program, kinds))
+    room.setup = shutil.copy(room.setup, kinds)
+    Path(room.setup).chmod(0o644)
+    room.ends("format --disk denied")
     for name in ("denied", "denied.setup", "denied.sheet"):
         (room.path / name).touch()
-    room.new_disk("denied")
-    for name in ("denied", "denied.setup", "denied.sheet"):
         (room.path / name).chmod(0)
     for task, fault, path in (("export --disk denied", "disk device", "denied"), ("format --disk kinds/new", "disk device", "kinds/new"),
                               ("check --sheet denied.sheet", "sheet file", "denied.sheet")):
-        room.ends(task, 1, f"{fault}\n{path}: no permission", before=other_user)
-    room.ends("list --of groups", 1, "setup file\ndenied.setup: no permission", before=other_user, setup="denied.setup")
+        room.ends(task, 1, f"{fault}\n{path}: no permission", before=as_other)
+    room.ends("list --of groups", 1, "setup file\ndenied.setup: no permission", before=as_other, setup="denied.setup")
 
 
-@pytest.mark.parametrize("path, shown", [
-    ("a\tb\nc\x7fd\u0085e\ufefff", f"a?b?c?d?e?f: {GONE}"), ("./d\u00fcr/../x", f"./d\u00fcr/../x: {GONE}"),
-    ("x" * 4200, f"{'x' * 4096}: the name is too long"),
-], ids=["control characters", "no control characters", "a long path"])
-def test_a_fault_shows_its_path_as_it_was_given(path: str, shown: str, room: Room) -> None:
-    room.ends("list --of groups", 1, f"setup file\n{shown}", setup=path)
-
-
-def test_a_record_without_an_end_is_refused(room: Room) -> None:
+def test_a_record_without_an_end_is_refused(disk: Room) -> None:
     """It is read no further than a record may go on, by a load and a dry run."""
-    room.new_disk("d")
-    begun = "municipality,list,number,votes\n1,1,1,7\n1,2,1,\""
-    from_stdin = ("bash", "-c", 'cat - /dev/zero 2> none | "$@"', "bash")
-    with room.untouched():
-        room.ends("load --disk d --csv /dev/zero", 1, out="refused csv\n")
-        room.ends("load --disk d --csv /dev/zero --dry-run", 1,
-                  out=f"row 1: {'?' * 3000} refused csv\nrefused 1 of 1 records\n")
-        room.ends("load --disk d --csv /dev/stdin", 1, out="refused csv\n", before=from_stdin, lines=begun)
-        ran = room.ends("load --disk d --csv /dev/stdin --dry-run", 1, out=None, before=from_stdin, lines=begun)
-    assert ran.out.endswith("\nrefused 1 of 2 records\n")
+    begun, from_stdin = "municipality,list,number,votes\n1,1,1,7\n1,2,1,\"", bash('cat - /dev/zero 2> none | "$@"')
+    with disk.untouched():
+        disk.ends("load --disk d --csv /dev/zero", 1, out="refused csv\n")
+        disk.ends("load --disk d --csv /dev/zero --dry-run", 1, out=f"row 1: {'?' * 3000} refused csv\nrefused 1 of 1 records\n")
+        disk.ends("load --disk d --csv /dev/stdin", 1, out="refused csv\n", before=from_stdin, lines=begun)
+        out = disk.ends("load --disk d --csv /dev/stdin --dry-run", 1, out=None, before=from_stdin, lines=begun)
+    assert out.endswith("\nrefused 1 of 2 records\n")
 
 
 @pytest.mark.parametrize("task, fault", [
@@ -194,18 +166,22 @@ def test_a_record_without_an_end_is_refused(room: Room) -> None:
     ("check --sheet sheet --held kinds", "held file\nkinds: is a folder"), ("check --sheet sheet --held /dev/zero", "held csv\n/dev/zero"),
 ])
 def test_a_text_that_can_not_be_read(task: str, fault: str, room: Room) -> None:
-    room.new_disk("d")
+    room.ends("format --disk d")
     (room.path / "sheet").write_text("1 sheet provisional 1\n")
     room.ends(task, 1, fault)
 
 
 @pytest.mark.parametrize("table", ["constituencies", "municipalities", "groups", "lists", "problems", "returns"])
-def test_a_set_up_that_is_not_there(table: str, room: Room) -> None:
-    room.ends(f"list --of {table}", 1, f"setup file\nnone.toml: {GONE}", setup="none.toml")
-    room.ends(f"list --of {table}", 1, "setup file\nkinds: is a folder", setup="kinds")
-    assert not (room.path / "none.toml").exists()
+@pytest.mark.parametrize("path, shown", [
+    ("none.toml", f"none.toml: {GONE}"), ("kinds", "kinds: is a folder"),
+    ("a\tb\nc\x7fd\u0085e\ufefff", f"a?b?c?d?e?f: {GONE}"), ("./d\u00fcr/../x", f"./d\u00fcr/../x: {GONE}"),
+    ("x" * 4200, f"{'x' * 4096}: the name is too long"),
+], ids=["none", "a folder", "control characters", "no control characters", "a long path"])
+def test_a_set_up_that_is_not_there(path: str, shown: str, table: str, room: Room) -> None:
+    """The fault shows its path as it was given."""
+    room.ends(f"list --of {table}", 1, f"setup file\n{shown}", setup=path)
+    assert sorted(os.listdir(room.path)) == ["kinds", "out"]
 
 
 def test_an_argument_that_is_not_utf_8(room: Room) -> None:
-    ran = room.run("run", before=("bash", "-c", r"""exec "$@" $'\xff'""", "bash"))
-    assert (ran.status, ran.out, ran.said) == (2, "", "error: an argument is not UTF-8\n")
+    assert room.run("run", before=bash(r"""exec "$@" $'\xff'""")) == (2, "", "error: an argument is not UTF-8\n")

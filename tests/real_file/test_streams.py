@@ -1,59 +1,42 @@
 """Streams that are closed or full."""
 import os
+from pathlib import Path
 
 import pytest
 
-from real_files import CLOSED, Room, closed, returns, shows
+from real_files import Room, closed, returns, shows, stored
+
+ALL = "<&- >&- 2>&-"
+RUN, FORMAT = "run --disk d", "format --disk d"
 
 
-@pytest.fixture
-def disk(room: Room) -> Room:
-    """A disk with a return, and with a line where no program looks, as a closed input must not read it."""
-    room.new_disk("d")
-    room.serves("d", returns(1, 1, 1), "1 stored 1\n")
-    with open(room.path / "d", "r+b") as file:
+@pytest.mark.parametrize("stream, task, lines, status, fault, replies, held", [
+    (">&-", RUN, "1 show 1 1\n", 1, "write", "", 1), (">/dev/full", RUN, "1 show 1 1\n", 1, "write", "", 1),
+    # a return whose reply can't be written is the last that it holds
+    (">&-", RUN, returns(1, 2, 9), 1, "write", "", 2), (">/dev/full", RUN, returns(1, 2, 9), 1, "write", "", 2),
+    ("<&-", RUN, "", 1, "read", "", 1), ("2>&-", RUN, returns(1, 2, 3), 0, "", stored(2, 3), 3), ("2>&-", FORMAT, "", 1, "", "", 1),
+    (ALL, RUN, "", 1, "", "", 1), (ALL, FORMAT, "", 1, "", "", 1),
+])
+def test_stream(stream: str, task: str, lines: str, status: int, fault: str, replies: str, held: int, disk: Room) -> None:
+    """The fault is write or read, and the disk is whole, or untouched where nothing is stored. It has a line where no program looks, as a
+    closed input must not read it."""
+    disk.serves("d", returns(1, 1, 1), "1 stored 1\n")
+    with open(disk.path / "d", "r+b") as file:
         os.pwrite(file.fileno(), b"\n1 return 1 1 2 14\n", 100)
-    return room
+    before = (disk.path / "d").read_bytes()
+    disk.ends(task, status, fault, replies, lines=lines, before=closed(stream))
+    assert held > 1 or (disk.path / "d").read_bytes() == before
+    disk.serves("d", "1 show 1 1\n", shows(held))
 
 
-@pytest.mark.parametrize("stream", [">&-", ">/dev/full"])
-def test_the_output(stream: str, disk: Room) -> None:
-    """The fault is write, and the disk is whole. A return whose reply can't be written is the last that it holds."""
-    with disk.untouched():
-        disk.ends("run --disk d", 1, "write", lines="1 show 1 1\n", before=closed(stream))
-    disk.ends("run --disk d", 1, "write", lines=returns(1, 2, 9), before=closed(stream))
-    disk.serves("d", "1 show 1 1\n", shows(2))
-
-
-def test_the_input(disk: Room) -> None:
-    """The fault is read, and the disk is untouched."""
-    with disk.untouched():
-        disk.ends("run --disk d", 1, "read", before=closed("<&-"))
-    disk.serves("d", "1 show 1 1\n", shows(1))
-
-
-def test_standard_error(disk: Room) -> None:
-    """A run serves, and a fault leaves the disk untouched."""
-    disk.ends("run --disk d", out="1 stored 2\n1 stored 3\n", lines=returns(1, 2, 3), before=closed("2>&-"))
-    disk.serves("d", "1 show 1 1\n", shows(3))
-    with disk.untouched():
-        disk.ends("format --disk d", 1, before=closed("2>&-"))
-
-
-@pytest.mark.parametrize("task", ["run --disk d", "format --disk d"])
-def test_all(task: str, disk: Room) -> None:
-    with disk.untouched():
-        disk.ends(task, 1, before=closed(CLOSED))
-
-
-@pytest.mark.parametrize("stream", ["<&-", ">&-", "2>&-", CLOSED])
+@pytest.mark.parametrize("stream", ["<&-", ">&-", "2>&-", ALL])
 def test_format_makes_a_disk(stream: str, room: Room) -> None:
     """Of a set-up with problems, too, which it tells on standard error."""
-    room.ends("format --disk d", before=closed(stream))
+    room.ends(FORMAT, before=closed(stream))
     room.serves("d", returns(1, 1, 1), "1 stored 1\n")
-    few = room.put(room.setup, "house = 10", "house = 1", "few.toml")
+    (room.path / "few.toml").write_text(Path(room.setup).read_text().replace("house = 10", "house = 1"))
     said = "" if "2>&-" in stream else "problems of the set-up: 2, named by list --of problems"
-    room.ends("format --disk few", fault=said, before=closed(stream), setup=few)
+    room.ends("format --disk few", fault=said, before=closed(stream), setup="few.toml")
 
 
 def test_full_standard_error(disk: Room) -> None:
