@@ -14,8 +14,8 @@
 #include <unistd.h>
 
 static int marked = -1;
-/* How many allocations are left up to the one that is refused; below 0, that is not known. */
-static long left_of_memory = -1;
+/* How many allocations, and calls of files, are left up to the one that fails; below 0, that is not known. */
+static long left_of_memory = -1, left_of_calls = -1;
 
 static long number(const char *name, long none) {
     const char *text = getenv(name);
@@ -34,8 +34,7 @@ static int is_refused(void) {
 
 /* Whether this call of a file is the one that fails. */
 static int fails(int file) {
-    static long left = -1;
-    if (file <= 2 || !is_the_one("FAIL", &left)) return 0;
+    if (file <= 2 || !is_the_one("FAIL", &left_of_calls)) return 0;
     errno = EIO;
     return 1;
 }
@@ -68,33 +67,22 @@ int close(int file) {
     return next(file);
 }
 
-void *malloc(size_t size) {
-    NEXT(malloc);
-    return is_refused() ? NULL : next(size);
-}
-
-void *realloc(void *old, size_t size) {
-    NEXT(realloc);
-    return is_refused() ? NULL : next(old, size);
-}
-
-int statx(int folder, const char *restrict path, int flags, unsigned int mask, struct statx *restrict found) {
-    NEXT(statx);
-    return fails(folder == AT_FDCWD ? 3 : folder) ? -1 : next(folder, path, flags, mask, found);
-}
-
-/* A call of a file, which fails or is passed on. */
-#define CALL(type, name, parameters, ...) \
+/* A call that gives `none` where it fails, and is passed on otherwise. */
+#define CALL(type, name, parameters, is_failing, none, ...) \
     type name parameters { \
         NEXT(name); \
-        return fails(file) ? -1 : next(__VA_ARGS__); \
+        return is_failing ? none : next(__VA_ARGS__); \
     }
-CALL(ssize_t, read, (int file, void *bytes, size_t length), file, bytes, length)
-CALL(ssize_t, pread, (int file, void *bytes, size_t length, off_t place), file, bytes, length, place)
-CALL(ssize_t, pwrite, (int file, const void *bytes, size_t length, off_t place), file, bytes, length, place)
-CALL(int, fsync, (int file), file)
-CALL(int, fdatasync, (int file), file)
-CALL(int, ftruncate, (int file, off_t length), file, length)
+CALL(void *, malloc, (size_t size), is_refused(), NULL, size)
+CALL(void *, realloc, (void *old, size_t size), is_refused(), NULL, old, size)
+CALL(int, statx, (int folder, const char *restrict path, int flags, unsigned int mask, struct statx *restrict found),
+     fails(folder == AT_FDCWD ? 3 : folder), -1, folder, path, flags, mask, found)
+CALL(ssize_t, read, (int file, void *bytes, size_t length), fails(file), -1, file, bytes, length)
+CALL(ssize_t, pread, (int file, void *bytes, size_t length, off_t place), fails(file), -1, file, bytes, length, place)
+CALL(ssize_t, pwrite, (int file, const void *bytes, size_t length, off_t place), fails(file), -1, file, bytes, length, place)
+CALL(int, fsync, (int file), fails(file), -1, file)
+CALL(int, fdatasync, (int file), fails(file), -1, file)
+CALL(int, ftruncate, (int file, off_t length), fails(file), -1, file, length)
 
 ssize_t write(int file, const void *bytes, size_t length) {
     static long left[3] = {0, -1, -1};

@@ -13,12 +13,7 @@ import night
 import office as offices
 from places import PROGRAM, TOP
 
-SEEDS = (night.SEED, 1, 5)
-
-
-def answers_of(text):
-    """The answers in a text, a sheet with all its lines as one."""
-    return re.findall(r"^\d sheet (?:provisional|final) \d+\n(?:.*\n)*?end\n|^.*\n", text, re.M)
+SHEET = r"^\d sheet (?:provisional|final) \d+\n(?:.*\n)*?end\n"
 
 
 def votes_in(office):
@@ -35,16 +30,13 @@ def check_sheet(office, sheet):
     """A sheet of what the office holds is that of the model, but for its divisors, of which many are right."""
     kind, commands = sheet.split()[2:4]
     election = model.Election(cantons.HOUSE, office.canton.persons, votes_in(office), names=cantons.CONSTITUENCIES, groups=cantons.LISTS)
-    assert plain(sheet).splitlines() == plain(election.sheet(kind, int(commands))).splitlines()
+    found, wanted = (re.sub(r" divisor \S+", "", it) for it in (sheet, election.sheet(kind, int(commands))))
+    assert found.splitlines() == wanted.splitlines()
     rows, columns = totals("constituency", sheet), totals("group", sheet)
     seated = [g for g, (seats, _) in enumerate(columns) if seats]
     question = [[row[g] or 0 for g in seated] for row in election.votes]
     assert model.is_right(question, [seats for seats, _ in rows], [columns[g][0] for g in seated],
                           [divisor for _, divisor in rows], [columns[g][1] for g in seated])
-
-
-def plain(sheet):
-    return re.sub(r" divisor \S+", "", sheet)
 
 
 def totals(word, sheet):
@@ -53,25 +45,19 @@ def totals(word, sheet):
     return [(int(seats), None if divisor == "-" else int(divisor.replace(".", ""))) for seats, divisor in rows]
 
 
-def compare(office, room, part, copied=()):
-    """Each answer of a part is that of the manual. How many commands half of them had; and by the commands of each copy the status, and
-    the votes of each group."""
-    lines, given = (room / part).read_text().splitlines(), answers_of((room / f"{part}.answers").read_text())
+def compared(office, room, part):
+    """How many commands there were after each line of a part, whose answer has to be that of the manual. A sheet is one answer."""
+    lines, given = (room / part).read_text().splitlines(), re.findall(f"{SHEET}|^.*\n", (room / f"{part}.answers").read_text(), re.M)
     assert len(lines) == len(given)
-    at_half, at_copy = 0, {}
-    for count, (line, answer) in enumerate(zip(lines, given), 1):
+    for line, answer in zip(lines, given):
         wanted = office.answer(line)
         assert answer.split("\n")[0] == wanted, line
         if " sheet " in wanted:
             check_sheet(office, answer)
-        if count == len(lines) - len(lines) // 2:
-            at_half = office.commands
-        if office.commands in copied and office.commands not in at_copy:
-            at_copy[office.commands] = office.status(), [sum(it or 0 for it in votes) for votes in zip(*votes_in(office))]
-    return at_half, at_copy
+        yield office.commands
 
 
-@pytest.mark.parametrize("seed", SEEDS)
+@pytest.mark.parametrize("seed", (night.SEED, 1, 5))
 def test_night(seed, tmp_path, program):
     environment = {**os.environ, "KEEP": str(tmp_path), "ZHCOUNT": str(program)}
     ran = subprocess.run([TOP / "examples/canton/run", str(seed)], env=environment, stdin=subprocess.DEVNULL, stdout=subprocess.PIPE,
@@ -79,18 +65,21 @@ def test_night(seed, tmp_path, program):
     assert ran.returncode == 0, ran.stdout
     office = offices.Office(cantons.Canton(cantons.Chance(seed)))
     status = {it: (tmp_path / f"{it}.status").read_text() for it in ("evening", "stop", "night")}
-    commands = int(re.search(r"(\d+) commands;", status["evening"])[1])
     with open(tmp_path / "early.votes", newline="") as file:
         early = [(int(it["commands"]), int(it["votes"])) for it in csv.DictReader(file)]
-    at_half, at_copy = compare(office, tmp_path, "evening", (early[0][0], commands))
-    assert early == [(early[0][0], votes) for votes in at_copy[early[0][0]][1]]
+    first, copied = early[0][0], int(re.search(r"(\d+) commands;", status["evening"])[1])
+    at_copy, done = {}, []
+    for commands in compared(office, tmp_path, "evening"):
+        done.append(commands)
+        if commands in (first, copied):
+            at_copy.setdefault(commands, (office.status(), [sum(it or 0 for it in votes) for votes in zip(*votes_in(office))]))
+    assert early == [(first, votes) for votes in at_copy[first][1]]
     assert 0 < sum(votes for _, votes in early) < sum(office.canton.votes.values()) / 10
-    assert at_half <= commands
-    assert status["evening"] == at_copy[commands][0]
+    assert done[len(done) - len(done) // 2 - 1] <= copied
+    assert status["evening"] == at_copy[copied][0]
     assert status["stop"] == office.status()
     office.stop()
-    compare(office, tmp_path, "night")
-    assert status["night"] == office.status()
+    assert [*compared(office, tmp_path, "night")] and status["night"] == office.status()
     assert re.search(r"^\d sheet final ", (tmp_path / "night.answers").read_text(), re.M)
     for disk in (tmp_path / "copy.disk", tmp_path / "night.disk"):
         exported, read = (subprocess.run(words, stdout=subprocess.PIPE).stdout for words in (
