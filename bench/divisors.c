@@ -60,13 +60,12 @@ static int middle_gives(const struct question *q, struct outcome *o, uint64_t sc
     return scale > 1 && middle_gives(q, o, 1);
 }
 
-static int gives_within(const struct question *q, struct outcome *o, uint64_t top) {
-    return settle(q, o, top) && is_strict(q, o) && middle_gives(q, o, top / ONE);
-}
-
 static int find_divisors(const struct question *q, struct outcome *o, const uint32_t *seats) {
     memcpy(o->seats, seats, sizeof o->seats);
-    return gives_within(q, o, MOST[COLUMNS] / 1000) || gives_within(q, o, MOST[COLUMNS]);
+    for (uint64_t top = MOST[COLUMNS] / 1000; top <= MOST[COLUMNS]; top *= 1000)
+        if (settle(q, o, top) && is_strict(q, o) && middle_gives(q, o, top / ONE))
+            return 1;
+    return 0;
 }
 
 /* The divisors of the decision, made easier to read where the seats still follow. */

@@ -57,7 +57,7 @@ static uint64_t mixed_in(uint64_t sum, const struct question *q, const struct ou
 int main(int argc, char **argv) {
     static struct question q;
     static struct outcome o;
-    if (argc < 6 || argc > 7)
+    if (argc < 6)
         return 2;
     int alone = strcmp(argv[1], "decide") == 0, are_equal = strcmp(argv[1], "lot") == 0, elections = atoi(argv[5]);
     uint32_t house = (uint32_t)atoi(argv[4]);
