@@ -10,7 +10,7 @@ BENCH = Path(__file__).resolve().parent
 SOURCES = ("search", "ways", "decision", "divisors")
 LINES = 32
 FOUND, NO_VOTES, TIED, EXHAUSTED, IMPOSSIBLE, NEARLY_TIED, BEYOND = range(7)
-Pair, Numbers, Divisors, Cells = ctypes.c_int * 2, ctypes.c_uint32 * LINES, ctypes.c_uint64 * LINES, ctypes.c_uint32 * LINES**2
+Numbers, Divisors, Cells = ctypes.c_uint32 * LINES, ctypes.c_uint64 * LINES, ctypes.c_uint32 * LINES**2
 # What the search answers, and in how many half-steps.
 WORKED = [
     ("rows 5 3 2, columns 5 4 1, votes 525 300 175, votes 240 330 30, votes 90 60 50", 0,  # no column step
@@ -27,7 +27,7 @@ WORKED = [
 
 
 class Question(ctypes.Structure):
-    _fields_ = [("lines", Pair), ("votes", ctypes.c_uint64 * LINES**2), ("totals", Numbers * 2)]
+    _fields_ = [("lines", ctypes.c_int * 2), ("votes", ctypes.c_uint64 * LINES**2), ("totals", Numbers * 2)]
 
 
 class Outcome(ctypes.Structure):
@@ -35,15 +35,17 @@ class Outcome(ctypes.Structure):
                 ("divisors", Divisors * 2), ("seats", Cells), ("others", Cells), ("too_few", Numbers)]
 
 
-def question(row_totals, column_totals, votes):
-    totals = row_totals, column_totals
-    return Question(Pair(*map(len, totals)), (ctypes.c_uint64 * LINES**2)(*votes), (Numbers * 2)(*(Numbers(*it) for it in totals)))
+def compiled(path, names, *flags):
+    """The program or library of these files of bench/, which is compiled at this path."""
+    subprocess.run([CC, "-O2", "-std=gnu11", *flags, *(BENCH / f"{it}.c" for it in names), "-o", path], check=True)
+    return path
 
 
 def question_of(lines):
     """The question that these lines spell: a line of rows, of columns, and of the votes of each row."""
     rows, columns, *votes = ([int(number) for number in it.split()[1:]] for it in lines)
-    return question(rows, columns, sum(votes, []))
+    totals = Numbers(*rows), Numbers(*columns)
+    return Question((len(rows), len(columns)), (ctypes.c_uint64 * LINES**2)(*sum(votes, [])), (Numbers * 2)(*totals))
 
 
 def listed(word, cells, columns):
@@ -70,9 +72,7 @@ class Asked:
     """What C says of questions; the C of bench/ that finds and decides is compiled into this folder."""
 
     def __init__(self, folder):
-        path, sources = Path(folder) / "search.so", [BENCH / f"{it}.c" for it in SOURCES]
-        subprocess.run([CC, "-O2", "-std=gnu11", "-shared", "-fPIC", *sources, "-o", path], check=True)
-        self.c = ctypes.CDLL(str(path))
+        self.c = ctypes.CDLL(str(compiled(Path(folder) / "search.so", SOURCES, "-shared", "-fPIC")))
 
     def outcome(self, function, q):
         """What `search`, `decide` or `find` makes of a question."""

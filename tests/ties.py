@@ -15,7 +15,7 @@ from fractions import Fraction
 from pathlib import Path
 
 sys.path.insert(0, str(Path(__file__).resolve().parent.parent / "bench"))
-from asked import TIED, Asked, listed, question as question_of_c
+from asked import TIED, Asked, listed, question_of
 
 
 def matrices(row_totals, column_totals):
@@ -55,13 +55,11 @@ def question(numbers):
     return (row_totals, column_totals, votes) if all(map(any, lines)) else None
 
 
-def line(row_totals, column_totals, votes, found):
-    """The line of a case that asks for the lot, with the fewest and the most seats of each cell."""
+def spelled(row_totals, column_totals, votes):
+    """The lines of a question."""
     columns = len(column_totals)
     rows = (["votes", *votes[place:place + columns]] for place in range(0, len(votes), columns))
-    asked = ", ".join(" ".join(map(str, it)) for it in (["rows", *row_totals], ["columns", *column_totals], *rows))
-    least, most = (listed(word, [of(cell) for cell in zip(*found)], columns) for word, of in (("least", min), ("most", max)))
-    return f"lot {asked} -> {least}; {most}"
+    return tuple(" ".join(map(str, it)) for it in (["rows", *row_totals], ["columns", *column_totals], *rows))
 
 
 def main(count):
@@ -70,11 +68,12 @@ def main(count):
     numbers, written = random.Random(1), set()
     while len(written) < count:
         asked = question(numbers)
-        if asked and c.outcome("search", question_of_c(*asked)).answer == TIED:
-            text = line(*asked, drawn(*asked))
-            if text not in written:
-                print(text)
-            written.add(text)
+        lines = spelled(*asked) if asked else ()
+        if asked and lines not in written and c.outcome("search", question_of(lines)).answer == TIED:
+            cells = [*zip(*drawn(*asked))]
+            least, most = (listed(word, [of(it) for it in cells], len(asked[1])) for word, of in (("least", min), ("most", max)))
+            print(f"lot {', '.join(lines)} -> {least}; {most}")
+            written.add(lines)
 
 
 if __name__ == "__main__":

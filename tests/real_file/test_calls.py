@@ -132,7 +132,7 @@ def test_call_fails(task, faults, replies, folder):
             assert shown in ("1 shows 1 525\n", "1 shows 2 530\n"), f"after {number} calls"
         else:
             assert folder.is_as_before(), f"the disk without call {number}"
-    assert [it.removeprefix("zhcount: ") for it, _ in itertools.groupby(found)] == faults
+    assert [it.replace("zhcount: ", "") for it, _ in itertools.groupby(found)] == faults
 
 
 def test_call_of_a_format_fails(folder):

@@ -58,9 +58,8 @@ def test_what_is_no_disk_is_refused(room: Room) -> None:
 def test_a_file_with_a_second_name_is_refused(room: Room) -> None:
     room.ends("format --disk kinds/d")
     os.link(room.path / "kinds/d", room.path / "kinds/other")
-    with room.untouched("kinds/d"):
-        refused(room, "kinds/d", ONE_NAME)
-        refused(room, "kinds/other", ONE_NAME)
+    refused(room, "kinds/d", ONE_NAME)
+    refused(room, "kinds/other", ONE_NAME)
     (room.path / "kinds/other").unlink()
     room.serves("kinds/d", returns(1, 1, 1), "1 stored 1\n")
 
