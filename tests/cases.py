@@ -37,12 +37,6 @@ def coded(words):
     return b"".join(bytes.fromhex(digits) * int(times or 1) for digits, _, times in groups)
 
 
-def replaced(text, change):
-    """The text with each OLD as NEW, where the change is `OLD => NEW`."""
-    old, new = (part.strip(" ").replace("\\n", "\n").encode() for part in (change + " ").split(" =>", 1))
-    return text.replace(old, new)
-
-
 def write(line, files):
     """Does a turn that writes a file."""
     words = line.split()
@@ -52,8 +46,9 @@ def write(line, files):
         files[words[1]] = files.get(words[1], b"") + coded(words[2:])
     elif words[0] == "remove":
         files.pop(words[1], None)
-    elif words[0] == "replace" and words[1] in files:
-        files[words[2]] = replaced(files[words[1]], line.split(None, 3)[3])
+    elif words[0] == "replace" and words[1] in files:  # OLD => NEW
+        old, new = (part.strip(" ").replace("\\n", "\n").encode() for part in f"{line.split(None, 3)[3]} ".split(" =>", 1))
+        files[words[2]] = files[words[1]].replace(old, new)
 
 
 def turns(path):
