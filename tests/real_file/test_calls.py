@@ -32,7 +32,8 @@ class Folder(Room):
         self.before = self.disk.read_bytes()
 
     def failing(self, task, given=os.devnull, **fails):
-        return self.preloaded.run(*self.words(task), given=given, **fails)
+        """A run of a task, or of none, which is a rehearsal."""
+        return self.preloaded.run(*(self.words(task) if task else [self.program]), given=given, **fails)
 
     def clear(self):
         """Leaves nothing but the disk."""
@@ -93,17 +94,10 @@ def test_allocation_is_refused(task, folder):
 def test_allocation_is_refused_to_a_rehearsal(folder):
     """Its disk is in memory: a refused allocation is a fault of the disk while lines are answered, and `memory` before."""
     (folder.path / "lines").write_text("1 return 1 1 1 525\n1 show 1 1\n")
-    ends = {(1, "", NO_MEMORY), (1, "", REMARK + NO_MEMORY),
-            (1, "1 refused device\n1 refused reopen-disk\n", f"{REMARK}zhcount: disk device\n")}
-    whole = (0, "1 stored 1\n1 shows 1 525\n", REMARK)
-    refused = 0
-    for number in itertools.count(1):
-        it = folder.preloaded.run(folder.program, given="lines", REFUSE=number)
-        assert it[:3] == whole or it.is_reached and it[:3] in ends, f"without allocation {number}: {it}"
-        refused += it.status
-        if not it.is_reached:
-            break
-    assert refused
+    assert folder.failing("", "lines")[:3] == (0, "1 stored 1\n1 shows 1 525\n", REMARK)
+    ends = {it[:3] for _, it in folder.each_failing("REFUSE", "")}
+    assert ends and ends <= {(1, "", NO_MEMORY), (1, "", REMARK + NO_MEMORY),
+                             (1, "1 refused device\n1 refused reopen-disk\n", f"{REMARK}zhcount: disk device\n")}
 
 
 @pytest.mark.parametrize("task, faults, replies", [
