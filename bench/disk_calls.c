@@ -11,7 +11,8 @@
 #include <string.h>
 #include <unistd.h>
 
-enum { SET_UP = 4096, SLOT_1 = 69632, SLOT_2 = 594176, SLOT_HEAD = 9, PAYLOAD = 262391, JOURNAL = 332032, JOURNAL_LENGTH = 262144, PAGE = 256 };
+enum { SET_UP = 4096, SLOT_1 = 69632, SLOT_2 = 594176, SLOT_HEAD = 9, PAYLOAD = 262391 };
+enum { JOURNAL = 332032, JOURNAL_LENGTH = 262144, PAGE = 256 };
 
 static void expect(int holds, const char *what) {
     if (!holds)
