@@ -9,7 +9,7 @@ import pytest
 from places import CASES, PROGRAM_OF_CASES, TOP
 from refusing import Preloaded
 
-TESTS = [("zh_crate_tests", "tests::refused_memory::a_disk_is_written"), ("zh_crate_tests", "tests::refused_memory::a_set_up_is_read")]
+PROGRAM_OF_TESTS = TOP / "crates/zh_crate_tests/out/zh_crate_tests_tests"
 TURNS = 16
 REPORT = re.compile(r"line (\d+): '.*(?:memory|device)'")
 
@@ -54,12 +54,12 @@ def test_mistake_is_seen(text, fault, room, library):
     assert any(fault in it for it in found), found
 
 
-@pytest.mark.parametrize("crate, test", TESTS, ids=lambda it: it.rpartition(":")[2])
-def test_test(crate, test, tmp_path, library):
+@pytest.mark.parametrize("test", ["a_disk_is_written", "a_set_up_is_read"])
+def test_test(test, tmp_path, library):
     """A test is refused each allocation that it makes; its set-up, which comes first, may not stand that: the first runs may fail."""
     held = 0
     for number in itertools.count(1):
-        it = Preloaded(library, tmp_path).run(TOP / "crates" / crate / "out" / f"{crate}_tests", test, REFUSE=number)
+        it = Preloaded(library, tmp_path).run(PROGRAM_OF_TESTS, f"tests::refused_memory::{test}", REFUSE=number)
         assert it.status == 0 or it.is_reached and not held, f"allocation {number}: {it.out}{it.said}"
         if not it.is_reached:
             break
