@@ -29,13 +29,6 @@ static uint64_t logarithm(uint64_t number) {
     return sum;
 }
 
-static void take_logarithms(struct priced *p) {
-    for (int k = 0; k < p->q->lines[ROWS] * p->q->lines[COLUMNS]; k++)
-        p->of_votes[k] = p->q->votes[k] ? logarithm(2 * p->q->votes[k]) : 0;
-    for (int k = 0; k < ODDS; k++)
-        p->of_odds[k] = logarithm(2 * (uint64_t)k + 1);
-}
-
 /* ---- sweeps ---- */
 
 /* By how much each next seat has to be too dear, and each last one cheap enough; the most and the least of a potential. */
@@ -201,7 +194,10 @@ void decide(const struct question *q, struct outcome *o) {
         return;
     p.q = q;
     p.seats = o->seats;
-    take_logarithms(&p);
+    for (int k = 0; k < q->lines[ROWS] * q->lines[COLUMNS]; k++)
+        p.of_votes[k] = q->votes[k] ? logarithm(2 * q->votes[k]) : 0;
+    for (int k = 0; k < ODDS; k++)
+        p.of_odds[k] = logarithm(2 * (uint64_t)k + 1);
     while (sweep_freely(&p, 0, 0, &w) == CYCLE)
         turn(q, &w, o->seats);
     if (sweep_freely(&p, GIVEN, TAKEN, &w) == STILL) {

@@ -68,14 +68,6 @@ static int find_divisors(const struct question *q, struct outcome *o, const uint
     return 0;
 }
 
-/* The divisors of the decision, made easier to read where the seats still follow. */
-static int take_decided(const struct question *q, struct outcome *o, const struct outcome *decided) {
-    memcpy(o->divisors, decided->divisors, sizeof o->divisors);
-    if (!middle_gives(q, o, ONE))
-        memcpy(o->divisors, decided->divisors, sizeof o->divisors);
-    return 1;
-}
-
 int find(const struct question *q, struct outcome *o) {
     static struct outcome x;
     search(q, o);
@@ -83,11 +75,13 @@ int find(const struct question *q, struct outcome *o) {
         return 0;
     x = *o;
     decide(q, &x);
-    int is_found = (x.answer != IMPOSSIBLE && find_divisors(q, o, x.seats)) || (x.answer == FOUND && take_decided(q, o, &x)) ||
-                   (x.answer == NEARLY_TIED && find_divisors(q, o, x.others));
-    if (is_found)
+    if ((x.answer != IMPOSSIBLE && find_divisors(q, o, x.seats)) || (x.answer == NEARLY_TIED && find_divisors(q, o, x.others))) {
         o->answer = FOUND;
-    else
+        return 1;
+    }
+    *o = x;
+    /* The divisors of the decision are made easier to read where the seats still follow. */
+    if (x.answer == FOUND && !middle_gives(q, o, ONE))
         *o = x;
-    return is_found;
+    return x.answer == FOUND;
 }
