@@ -1,7 +1,5 @@
 """A headless browser on the page, driven as somebody would drive it: files are chosen, texts pasted, keys pressed."""
-import json
 import pathlib
-import re
 import tempfile
 
 from selenium import webdriver
@@ -16,8 +14,9 @@ PAGE = TOP / "page" / "index.html"
 # No test is about time: a machine may be slow, and have other work. So many seconds mean that nothing comes any more.
 PATIENCE = 600
 STARTS = 5
-# A hyphen that is seen only where a word is parted.
-HYPHEN = "\u00ad"
+NAMES = ("sheet.txt", "setup.toml", "held.csv")
+# What was given is shown, and the proved check has answered.
+SHOWN = "return document.body.dataset.shown !== '' && document.body.dataset.proved !== 'runs'"
 
 
 def started(language="en-GB", size=(1280, 900)):
@@ -68,28 +67,41 @@ class Page:
         # What is shown is marked, so that it can be seen to be replaced, also where the same is shown again.
         self.run("document.body.dataset.shown = ''")
         self.give(*files)
-        self.wait("return document.body.dataset.shown !== '' && document.body.dataset.proved !== 'runs'")
+        self.wait(SHOWN)
         return self
 
     def sheet(self, *files, before=""):
         """The page anew, with a sheet, and perhaps a set-up and rows held, None for one that is not given, after a script."""
         self.open().run(before)
-        return self.choose(*(file for file in zip(("sheet.txt", "setup.toml", "held.csv"), files) if file[1] is not None))
+        return self.choose(*(file for file in zip(NAMES, files) if file[1] is not None))
 
-    def states(self, sheets, setup=None, held=None):
-        """What the page's own check says of each of these sheets, with one set-up and rows held: they are shown one after the
-        other, and not chosen, which takes longer."""
-        return self.open().run("""
-            const [sheets, setup, held] = arguments;
+    def states(self, *cases):
+        """What the page's own check says of the files of each case, which are as those of `sheet`. They are shown one after the other,
+        and neither chosen nor handed to the proved check, which takes longer. The last ones stay."""
+        return self.run("""
             asked = () => new Promise(() => {});
-            const file = (name, text) => opened(name, new TextEncoder().encode(text));
-            takeFiles([['setup.toml', setup], ['held.csv', held]].filter(([, text]) => text !== null).map((it) => file(...it)));
-            return sheets.map((sheet) => {
-              Object.assign(files, { sheet: file('sheet.txt', sheet), before: null });
-              show();
+            const bytes = (it) => (typeof it === 'string' ? new TextEncoder().encode(it) : Uint8Array.from(it));
+            return arguments[0].map((given) => {
+              Object.assign(files, { sheet: null, before: null, setup: null, held: null });
+              takeFiles(given.map(([name, it]) => opened(name, bytes(it))));
               return document.body.dataset.own;
             });
-        """, sheets, setup, held)
+        """, [[(name, list(it) if isinstance(it, bytes) else it) for name, it in zip(NAMES, files) if it is not None] for files in cases])
+
+    def show(self, *files):
+        """The page with these files, by its own check alone."""
+        self.states(files)
+        return self
+
+    def proved(self, state, why=""):
+        """The page as it is where the proved check says this of the files that are open."""
+        self.run("""
+            const [state, why] = arguments;
+            Object.assign(proved, { state, why, text: ['right', 'wrong', 'refused'].includes(state) ? new Uint8Array() : null });
+            showBar(judge(), proved);
+            showProved(judge());
+        """, state, why)
+        return self
 
     def run(self, script, *arguments):
         """What a script in the page returns."""
@@ -99,13 +111,6 @@ class Page:
         """Waits until this script, or this call, returns true."""
         holds = condition if callable(condition) else lambda: self.run(condition)
         WebDriverWait(self.driver, PATIENCE, poll_frequency=0.02).until(lambda driver: holds())
-
-    def has_drawn(self):
-        """Waits until what is in sight now is laid out and drawn."""
-        self.driver.execute_async_script("""
-            const draw = (times) => (times > 0 ? requestAnimationFrame(() => draw(times - 1)) : arguments[0]());
-            draw(3);
-        """)
 
     def one(self, css):
         return self.driver.find_element(By.CSS_SELECTOR, css)
@@ -120,39 +125,37 @@ class Page:
         """Has the page in this language, 'en' or 'de'."""
         self.click(f"#languages button[lang={language}]")
 
-    def text(self, css):
-        """The text that is seen there; '' where there is none."""
-        found = self.all(css)
-        return found[0].text.replace(HYPHEN, "") if found else ""
+    def seen(self, *places):
+        """The texts that are seen at each of these places, without hyphens that part a word, and with one blank where there are some, or a
+        new line. A fault that is far below has no innerText yet, nor has what is drawn."""
+        return self.run("""
+            const said = (one) => (one.innerText || one.textContent).replaceAll('\u00ad', '').replace(/\\s+/gu, ' ').trim();
+            return arguments[0].map((css) => [...document.querySelectorAll(css)].map((one) => (one.checkVisibility() ? said(one) : '')));
+        """, places)
 
     def texts(self, css):
-        return [element.text.replace(HYPHEN, "") for element in self.all(css)]
+        return self.seen(css)[0]
 
-    def state(self):
-        """The colour of the bar: 'right', 'wrong' or 'unsure'; 'none' without a sheet."""
-        return self.one("body").get_attribute("data-state")
+    def text(self, css):
+        """The text that is seen there first; '' where there is none."""
+        return (self.texts(css) or [""])[0]
+
+    def bar(self):
+        """What the page's own check says, 'right', 'wrong' or 'refused', or 'none' without a sheet; and the colour of the bar."""
+        return tuple(self.run("return [document.body.dataset.own, document.body.dataset.state]"))
 
     def own(self):
-        """What the page's own check says: 'right', 'wrong' or 'refused'; 'none' without a sheet."""
-        return self.one("body").get_attribute("data-own")
+        return self.bar()[0]
 
-    def proved(self, state, why=""):
-        """The bar as it is where the proved check says this of the files that are open."""
-        self.run("showBar(judge(), { state: arguments[0], why: arguments[1] })", state, why)
-        return self
+    def state(self):
+        return self.bar()[1]
 
     def failing(self):
         """The parts of the check that fail."""
-        names = self.texts("#parts tr.bad th")
-        return [re.sub(r"^✗ (\S+).*", r"\1", name, flags=re.S) for name in names]
+        return [name.split()[1] for name in self.texts("#parts tr.bad th")]
 
     def press(self, *keys):
         webdriver.ActionChains(self.driver).send_keys(*keys).perform()
-
-    def requests(self):
-        """The addresses that the browser asked for since this was last called."""
-        messages = [json.loads(entry["message"])["message"] for entry in self.driver.get_log("performance")]
-        return [it["params"]["request"]["url"] for it in messages if it["method"] == "Network.requestWillBeSent"]
 
     def complaints(self):
         """What the browser complained about: scripts that failed, and what the content policy refused."""

@@ -51,7 +51,7 @@ WRONG_KEY = changed(sheets.ZURICH.sheet, "seats key 38000/38", "seats key 38000/
 
 
 class Case(unittest.TestCase):
-    """Tests with one browser for a whole class, which is one process's therefore."""
+    """Tests with one browser for a whole class, which is one process's therefore. Each test opens the page anew."""
     language = "en-GB"
     path = browser.PAGE  # of the page that is tested
     starts, ends = staticmethod(browser.started), staticmethod(lambda driver: driver.quit())
@@ -63,11 +63,10 @@ class Case(unittest.TestCase):
     @classmethod
     def setUpClass(cls):
         cls.driver = cls.starts(cls.language)
-        cls.page = browser.Page(cls.driver, cls.path)
+        cls.addClassCleanup(cls.ends, cls.driver)
 
-    @classmethod
-    def tearDownClass(cls):
-        cls.ends(cls.driver)
+    def setUp(self):
+        self.page = browser.Page(self.driver, self.path)
 
     def has_screen(self, width, height, scale, is_mobile):
         """Gives the browser another screen, until the end of the test."""
@@ -84,30 +83,21 @@ class Case(unittest.TestCase):
     def bar_is(self, state, heading):
         self.assertEqual((self.page.state(), self.page.text("#verdict")), (state, heading))
 
-    def holds(self, sheet, setup=None, held=None):
+    def holds(self, *files):
         """The page's own check says right. Which colour the bar has depends on what was given (test_bar.py)."""
-        page = self.page.sheet(sheet, setup, held)
-        self.assertEqual(page.own(), "right", page.text("#problems"))
-        self.assertIn(page.state(), ("right", "unsure"))
-        self.assertEqual(page.failing(), [])
-        self.assertEqual(page.texts(".fault"), [])
+        page = self.page.show(*files)
+        self.assertEqual(page.bar(), ("right", "unsure"), page.text("#problems"))
+        self.assertEqual(page.seen("#parts tr.bad", ".fault"), [[], []])
         return page
 
-    def fails(self, part, line, reason, sheet, setup=None, held=None, state="wrong"):
+    def fails(self, part, line, reason, *files, state="wrong"):
         """The first fault is of this part (None: the sheet can't be read), in this line, and for this reason. The bar has this state,
         by whether the sheet itself is wrong, does not match another file, or was damaged."""
-        page = self.page.sheet(sheet, setup, held)
-        self.assertEqual(page.state(), state)
-        self.assertEqual(page.own(), "wrong")
-        self.assertTrue(page.text("#verdict").startswith(HEADINGS[state]), page.text("#verdict"))
-        self.assertIn(reason, page.text(".fault .reason"))
-        self.assertRegex(page.text(".fault pre"), rf"^{line}: ")
-        self.assertEqual(page.failing()[:1], [] if part is None else [part])
+        page = self.page.show(*files)
+        self.assertEqual(page.bar(), ("wrong", state))
+        (verdict,), reasons, (text, *_), parts = page.seen("#verdict", ".fault .reason", ".fault pre", "#parts tr.bad th")
+        self.assertTrue(verdict.startswith(HEADINGS[state]), verdict)
+        self.assertIn(reason, reasons[0])
+        self.assertRegex(text, f"^{line}:")
+        self.assertEqual([it.split()[1] for it in parts[:1]], [] if part is None else [part])
         return page
-
-    def unread(self, line, reason, setup, held=None):
-        """The set-up, or the rows where they are given, can't be read, at this line (None: any), for this reason."""
-        page = self.page.sheet(EXAMPLE, setup, held)
-        self.assertEqual((page.state(), page.own()), ("unsure", "right"))
-        self.assertIn(f"! {'Returns' if held else 'Set-up'} not understood: line {line or ''}", page.text("#ticks"))
-        self.assertIn(reason, page.text(".fault .reason"))

@@ -16,6 +16,28 @@ REFUSALS = (("tied seats", "The seats of the constituencies are tied"), ("noseat
             ("novotes 2", "no votes in constituency 2 (Mitte)"), ("tied lower 2 31", "group 31 in constituency 2 (Mitte) lies on a half"),
             ("exhausted", "search for divisors ended without any"), ("notclosed 512", "Municipality 512 is still open"),
             ("memory", "too little memory"), ("reopen-disk", "has to be opened again"))
+# A set-up with what TOML has and this page does not understand.
+SPREAD = EXAMPLE_SETUP.replace("[1, 2, 3]", "[1,\n2, 3]", 1)
+OF_SHEET, OF_VOTES, OF_ONE, DIFFER = ("! Not fully checked: the seats fit the votes on the sheet",
+                                      "! Not fully checked: right for the votes on the sheet",
+                                      "! Not fully checked: right by one check of two", "✗ The two checks differ")
+# The colour of the bar, its heading, what is said below it, what the proved check says, and the files.
+BARS = (
+    ("unsure", OF_SHEET, "! Not opened: the set-up Without the set-up, number of seats, names, persons, quorum and lists are not checked: a "
+     "list too many or too few would not show. ! Not opened: the returns Whether these are the votes that were reported is not checked. "
+     "! One check of two says: right The proved check needs the set-up.", "alone", EXAMPLE),
+    ("unsure", OF_VOTES, "✓ Set-up opened ! Not opened: the returns", "right", EXAMPLE, EXAMPLE_SETUP),
+    ("unsure", OF_SHEET, "! Returns opened, but not compared To compare them, the page needs the set-up.", "alone", EXAMPLE, None, ROWS),
+    ("unsure", OF_VOTES, "! Returns not understood: line 11 The votes are compared with nothing.", "right", EXAMPLE, EXAMPLE_SETUP, ROWS + "x\n"),
+    ("unsure", OF_SHEET, "! Set-up not understood: line 23 Number of seats, names, persons, quorum and lists are not checked by this page. "
+     "! Returns opened, but not compared To compare them, the page needs the set-up. ✓ Both checks say: right", "right", EXAMPLE, SPREAD, ROWS),
+    ("wrong", "✗ Wrong by the proved check", "It looked at more than this page’s own check could.", "wrong", EXAMPLE, SPREAD, ROWS),
+    ("right", "✓ Right", "these are the votes of all 9 returns.", "right", EXAMPLE, *OTHERS),
+    ("wrong", DIFFER, "own check says right, the proved check says wrong", "wrong", EXAMPLE, *OTHERS),
+    ("wrong", DIFFER, "own check says wrong at line 2, the proved check says right", "right", changed(EXAMPLE, "house 10", "house 11"), EXAMPLE_SETUP),
+    ("unsure", "! The proved check is at work", "own check says: right", "runs", EXAMPLE, *OTHERS),
+    ("unsure", OF_ONE, "This copy of the page has no proved check.", "absent", EXAMPLE, *OTHERS),
+    ("unsure", OF_ONE, "The proved check did not run: no memory", "failed", EXAMPLE, *OTHERS))
 
 
 class Bar(Case):
@@ -24,7 +46,7 @@ class Bar(Case):
         found = [{"own": own, "proved": {"state": proved, "why": "time"}, "setup": setup, "rows": rows,
                   "returns": {"rows": held, "possible": 9, "missing": [{"name": "Nord", "lists": ["A"]}]}}
                  for own, proved, setup, rows, held in itertools.product(OWN, PROVED, SETUP, GIVEN, (0, 8, 9))]
-        bars = self.page.open().run("return arguments[0].map(barOf)", found)
+        bars = self.page.run("return arguments[0].map(barOf)", found)
         for one, said in zip(found, bars, strict=True):
             own, proved = one["own"]["verdict"], one["proved"]["state"]
             is_read, is_whole = one["setup"]["is"] == "read", one["rows"]["is"] == "compared" and one["returns"]["rows"] == 9
@@ -44,94 +66,61 @@ class Bar(Case):
                 self.assertEqual(said["heading"]["key"] == "barDiffer",
                                  differ and (own == "wrong" or is_read and one["rows"]["is"] in ("compared", "none")))
 
-    def unsure(self, heading, ticks, *files):
-        page = self.page.sheet(*files)
-        self.bar_is("unsure", f"! Not fully checked: {heading}")
-        self.assertIn(ticks, page.text("#ticks"))
-        return page
+    def test_what_it_says(self):
+        """By what the two checks say, and what was not opened or not understood."""
+        for colour, heading, says, proved, *files in BARS:
+            with self.subTest(says):
+                page = self.page.show(*files).proved(proved, "no memory")
+                self.bar_is(colour, heading)
+                self.assertIn(says, " ".join(page.texts("#why, #ticks")))
+                self.assertEqual("(compared with all 9 returns)" in page.text("#parts"), files[1:] == [*OTHERS])
+
+    def test_a_list_too_many_passes_alone(self):
+        more = changed(changed(EXAMPLE, "25 seats 0\n", "25 seats 0\nlist 3 4 votes 0 voters - seats 0\n"), "divisor 1.000000 C\n",
+                       "divisor 1.000000 C\ngroup 4 quorum no voters - seats 0 divisor - D\n")
+        self.assertIn("a list too many", self.holds(more).text("#ticks"))
+        self.assertEqual(self.page.show(more, EXAMPLE_SETUP).state(), "mismatch")
 
     def test_a_sheet_alone(self):
-        page = self.unsure("the seats fit the votes on the sheet", "number of seats, names, persons, quorum and lists are not "
-                           "checked: a list too many or too few would not show", EXAMPLE)
+        page = self.page.show(EXAMPLE)
         self.assertEqual(page.text("#why .caveat"),
                          "You have not opened the set-up and the returns: whether these are the votes that were reported is not checked.")
         self.assertEqual(page.text("#parliament h2"), "The parliament as this sheet has it: not fully checked")
-        self.assertRegex(page.text("#ticks"), r"(?s)! Not opened: the set-up.*! Not opened: the returns\nWhether these .* is not "
-                         r"checked\..*! One check of two says: right\nThe proved check needs the set-up\.")
-
-    def test_a_list_too_many_passes_alone(self):
-        more = changed(EXAMPLE, "list 3 3 votes 50 voters 25 seats 0\n",
-                       "list 3 3 votes 50 voters 25 seats 0\nlist 3 4 votes 0 voters - seats 0\n")
-        more = changed(more, "divisor 1.000000 C\n", "divisor 1.000000 C\ngroup 4 quorum no voters - seats 0 divisor - D\n")
-        page = self.holds(more)
-        self.assertEqual(page.state(), "unsure")
-        self.assertIn("a list too many", page.text("#ticks"))
-        self.assertEqual(self.page.sheet(more, EXAMPLE_SETUP).state(), "mismatch")
-
-    def test_without_rows(self):
-        self.unsure("right for the votes on the sheet", "✓ Set-up opened\n! Not opened: the returns", EXAMPLE, EXAMPLE_SETUP)
-
-    def test_rows_without_a_set_up(self):
-        page = self.unsure("the seats fit the votes on the sheet",
-                           "! Returns opened, but not compared\nTo compare them, the page needs the set-up.", EXAMPLE, None, ROWS)
-        self.assertNotIn("(compared with", page.text("#parts"))
-
-    def test_rows_that_are_not_understood(self):
-        self.unsure("right for the votes on the sheet", "! Returns not understood: line 11\nThe votes are compared with nothing.",
-                    EXAMPLE, EXAMPLE_SETUP, ROWS + "x\n")
+        for text in ("Not checked without the set-up: number of seats, quorum, names", "Not compared with the returns",
+                     "Not checked without the set-up: the persons"):
+            self.assertIn(text, page.text("#checks"))
+        self.assertNotIn("without the set-up", page.show(EXAMPLE, EXAMPLE_SETUP).text("#checks"))
+        self.assertIn("only together with the set-up", page.show(EXAMPLE, None, ROWS).text("#problems"))
+        self.assertIn("this line is not understood here", page.show(EXAMPLE, SPREAD).text(".fault .reason"))
 
     def test_returns_that_are_missing(self):
         election = model.Election(10, [5000, 3000, 2000], [[525, 300, 175], [240, 330, 30], [90, 60, 0]])
         sheet, setup, rows = election.files()
-        self.page.sheet(sheet, setup, rows).proved("right")
+        self.page.show(sheet, setup, rows).proved("right")
         self.bar_is("right", "✓ Right")
         few = changed(rows, "3,3,1,0\n", "")
         page = self.page.sheet(sheet, setup, few)
         self.bar_is("unsure", "! 1 of 9 returns is missing; right so far")
         self.assertTrue(page.text("#proved p").startswith("It says that the sheet is right. "))
         self.assertTrue(page.text("#proved pre").endswith("sheet ok for 8 of 9 rows: 1 returns are missing"))
-        self.assertIn("! Returns opened: 8 of 9\n", page.text("#ticks"))
+        self.assertIn("! Returns opened: 8 of 9 ", page.text("#ticks"))
         self.assertEqual(page.texts("#why p")[:2], ["The missing returns can still change the seats.", "Missing: District 3: Group 3."])
         self.assertEqual(page.text("#parliament h2"), "The parliament so far: 8 of 9 returns")
-        listed = page.all("#checks details li")
-        self.assertEqual([one.get_property("textContent") for one in listed], ["District 3: Group 3"])
-        self.assertEqual(page.proved("right").state(), "unsure")
+        self.assertEqual(page.run("return document.querySelector('#checks details ul').textContent"), "District 3: Group 3")
         self.assertIn("✓ Both checks say: right", page.text("#ticks"))
         few = changed(few, "3,2,1,60\n", "")
-        self.page.sheet(model.Election(10, [5000, 3000, 2000], [[525, 300, 175], [240, 330, 30], [90, 0, 0]]).sheet(), setup, few)
+        page.show(model.Election(10, [5000, 3000, 2000], [[525, 300, 175], [240, 330, 30], [90, 0, 0]]).sheet(), setup, few)
         self.assertEqual(page.text("#verdict"), "! 2 of 9 returns are missing; right so far")
 
     def test_lists_that_are_missing_stand_by_municipality(self):
         setup = model.made_up(1, 5, 6, 60).setup()
         rows = "".join(f"{m},{g},1,7\n" for m in (1, 2, 5) for g in range(1, 7) if (m, g) not in ((1, 4), (5, 6)) and (m != 2 or g == 3))
-        said = self.page.open().run("""
+        said = self.page.run("""
             const { rows, possible, missing } = readHeld(arguments[1], readSetup(arguments[0]));
             const said = make('p', {}, reasonOf(words('barMissingAre', { missingRows: { rows: missing } })));
             return [rows, possible, said.textContent];
         """, setup, "municipality,list,number,votes\n" + rows)
         self.assertEqual(said, [11, 30, "Missing: District 1: Group 4; District 2: 5 lists; District 3: all lists; 2 more."])
-
-    def test_both_checks(self):
-        page = self.page.sheet(EXAMPLE, *OTHERS)
-        for state, colour, heading, why in (
-                ("right", "right", "✓ Right", "these are the votes of all 9 returns."),
-                ("wrong", "wrong", "✗ The two checks differ", "own check says right, the proved check says wrong"),
-                ("runs", "unsure", "! The proved check is at work", "own check says: right"),
-                ("absent", "unsure", "! Not fully checked: right by one check of two", "This copy of the page has no proved check."),
-                ("failed", "unsure", "! Not fully checked: right by one check of two", "The proved check did not run: no memory")):
-            with self.subTest(state):
-                page.proved(state, "no memory")
-                self.bar_is(colour, heading)
-                self.assertIn(why, page.text("#why") + page.text("#ticks"))
-        page.sheet(changed(EXAMPLE, "house 10", "house 11"), EXAMPLE_SETUP).proved("right")
-        self.bar_is("wrong", "✗ The two checks differ")
-        page.sheet(EXAMPLE, EXAMPLE_SETUP.replace("[1, 2, 3]", "[1,\n2, 3]", 1), ROWS).proved("wrong")
-        self.bar_is("wrong", "✗ Wrong by the proved check")
-
-    def test_what_toml_has_and_this_page_does_not_understand_is_said(self):
-        page = self.page.sheet(EXAMPLE, EXAMPLE_SETUP.replace("[1, 2, 3]", "[1,\n2, 3]", 1), ROWS).proved("right")
-        self.assertEqual(page.state(), "unsure")
-        self.assertRegex(page.text("#ticks"), r"(?s)! Set-up not understood: line \d+.*✓ Both checks say: right\n")
 
     def test_final_is_what_a_sheet_calls_itself(self):
         """In each colour and in both languages: a provisional sheet in which that word is changed is as right."""
@@ -141,12 +130,12 @@ class Bar(Case):
                        "Never checked: that it is final, and how many entries of the desks it counts (9, it says)."),
                 "de": ("Das Resultatblatt nennt sich «endgültig»", "Das Parlament nach einem Resultatblatt, das sich «endgültig» nennt",
                        "Nie geprüft: dass es endgültig ist und wie viele Einträge der Pulte es zählt (nach eigener Angabe 9).")}
-        for colour, *files in (("right", final, *OTHERS), ("unsure", final), ("wrong", wrong, *OTHERS),
-                               ("mismatch", final, EXAMPLE_SETUP, changed(ROWS, "1,1,1,525", "1,1,1,526"))):
-            page = self.page.sheet(*files)
+        for colour, proved, *files in (("right", "right", final, *OTHERS), ("unsure", "alone", final), ("wrong", "wrong", wrong, *OTHERS),
+                                       ("mismatch", "wrong", final, EXAMPLE_SETUP, changed(ROWS, "1,1,1,525", "1,1,1,526"))):
             for language, (called, picture, never) in said.items():
                 with self.subTest(colour, language=language):
-                    page.speak(language)
+                    self.page.speak(language)
+                    page = self.page.show(*files).proved(proved)
                     self.assertEqual((page.state(), page.text("#kind"), page.texts("#why p")[-1]), (colour, called, never))
                     self.assertEqual(page.text("#parliament h2") == picture, colour == "right")
 
@@ -154,31 +143,28 @@ class Bar(Case):
         for name, why in REFUSALS:
             for text in (f"1 refused {name}\n", f"zhcount: refused {name}\n", f"8 refused {name}"):
                 with self.subTest(text):
-                    page = self.page.sheet(text, EXAMPLE_SETUP)
-                    self.assertEqual((page.state(), page.own()), ("answer", "refused"))
-                    self.assertEqual((page.text("#kind"), page.text("#verdict")), ("NO SEATS", "i The office gives no seats, and says why"))
-                    self.assertIn(why, page.text("#why"))
-                    self.assertEqual(page.texts("#ticks li"), [])
-                    self.assertTrue(page.text("#proved p").startswith("It checks sheets alone, and to it this answer is none."))
-                    self.assertIn("“sheet wrong” in its last line below says only that", page.text("#proved p"))
-                    self.assertEqual(page.texts(".fault, #signatures p"), [])
-        self.assertIn("Constituency 3 would have no seat.", self.page.sheet("1 refused noseat 3\n").text("#why"))
+                    page = self.page.show(text, EXAMPLE_SETUP).proved("wrong")
+                    self.assertEqual(page.bar(), ("refused", "answer"))
+                    (kind,), (verdict,), sentences, (said,), *none = page.seen(
+                        "#kind", "#verdict", "#why p", "#proved p", "#ticks li", ".fault, #signatures p")
+                    self.assertEqual((kind, verdict), ("NO SEATS", "i The office gives no seats, and says why"))
+                    self.assertIn(why, sentences[0])
+                    self.assertTrue(said.startswith("It checks sheets alone, and to it this answer is none."))
+                    self.assertIn("“sheet wrong” in its last line below says only that", said)
+                    self.assertEqual(none, [[], []])
+        self.assertIn("Constituency 3 would have no seat.", self.page.show("1 refused noseat 3\n").text("#why"))
         self.fails(None, 1, "it does not belong here", "1 refused stale\n")
         self.fails(None, 1, "it does not belong here", "1 refused nogroup\n" + EXAMPLE)
 
     def test_all_faults_are_listed(self):
         sheet = EXAMPLE
-        for line in ("list 1 1 votes 525 voters 105 seats 3", "list 2 2 votes 330 voters 110 seats 2",
-                     "list 3 3 votes 50 voters 25 seats 0"):
+        for line in ("list 1 1 votes 525 voters 105 seats 3", "list 2 2 votes 330 voters 110 seats 2", "list 3 3 votes 50 voters 25 seats 0"):
             sheet = changed(sheet, line, line[:-1] + "9")
-        page = self.page.sheet(sheet, EXAMPLE_SETUP)
-        lines = page.texts(".fault pre")
+        lines, reasons, count = self.page.show(sheet, EXAMPLE_SETUP).seen(".fault pre", ".fault .reason", "#count")
         self.assertEqual([int(line.split(":")[0]) for line in lines], [11, 15, 19, 5, 6, 7, 8, 9, 10])
-        self.assertEqual(len(page.texts(".fault .reason")), 9)
-        self.assertEqual(page.text("#count"), "9 checks fail.")
+        self.assertEqual((len(reasons), count), (9, ["9 checks fail."]))
         # All that is wrong with one line stands together.
-        page.sheet(changed(EXAMPLE, "votes 525 voters 105 seats 3", "votes 525 voters 104 seats 4"), EXAMPLE_SETUP)
-        box = page.all(".fault")
+        self.page.show(changed(EXAMPLE, "votes 525 voters 105 seats 3", "votes 525 voters 104 seats 4"), EXAMPLE_SETUP)
         self.assertIn(["525 / 5, rounded, is 105 voters, and not 104",
                        "525 / (205.000000 × 1.000000) = 2.560.. rounds to 3, and not to 4 seats"],
-                      [[reason.text for reason in one.find_elements(By.CSS_SELECTOR, ".reason")] for one in box])
+                      [[reason.text for reason in box.find_elements(By.CSS_SELECTOR, ".reason")] for box in self.page.all(".fault")])

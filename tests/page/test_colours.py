@@ -1,13 +1,14 @@
 """Colours that a reader chooses for groups, which the address keeps."""
 from selenium.webdriver.common.keys import Keys
 
-import browser
-import firefox
-from case import EXAMPLE, EXAMPLE_SETUP, LARGEST, OTHERS, ROWS, Case
+from case import EXAMPLE, EXAMPLE_SETUP, LARGEST, ROWS, Case
 from test_sight import contrast
 
 RED, YELLOW = "rgb(227, 6, 19)", "rgb(255, 237, 0)"
-SO_FAR = (("setup.toml", EXAMPLE_SETUP), ("held.csv", ROWS))
+SO_FAR = (None, EXAMPLE_SETUP, ROWS)
+VALUES = "return [...document.querySelectorAll('#colours input')].map((one) => one.value)"
+# What has no colour: only a number of a group and a colour of six digits count.
+NONE = ("#x", "#0=e30613", "#33=e30613", "#2=red", "#2=e3061", "#2=e30613}body{display:none", "#2", "#__proto__=e30613")
 
 
 class Chosen:
@@ -17,50 +18,41 @@ class Chosen:
         """The page with these files, opened at an address that ends so."""
         self.driver.get("about:blank")
         self.driver.get(self.page.path.as_uri() + address)
-        return self.page.choose(*files)
-
-    def choose(self, group, colour):
-        """Chooses a colour, as the browser's own dialog gives it."""
-        self.page.run("""
-            const input = document.querySelectorAll('#colours input')[arguments[0] - 1];
-            input.value = arguments[1];
-            input.dispatchEvent(new Event('change', { bubbles: true }));
-        """, group, colour)
+        return self.page.show(*files)
 
     def fills(self, css):
         return self.page.run("return [...document.querySelectorAll(arguments[0])].map((one) => getComputedStyle(one).fill)", css)
 
-    def address(self):
-        return self.page.run("return location.hash")
-
-    def test_a_colour_that_is_chosen(self):
-        """It is that of the group's seats, signs and bar, and the address keeps it."""
-        page = self.at("", ("sheet.txt", EXAMPLE))
+    def test_colours_that_are_chosen(self):
+        """They are those of the group's seats, signs and bar, and the address keeps them. A page that is opened at this address has them,
+        before there are seats too, and shows them to be chosen anew."""
+        page = self.at("", EXAMPLE)
         before = self.fills(".arc g:nth-of-type(2) .seat")
-        self.choose(2, "#e30613")
-        self.assertEqual(self.address(), "#2=e30613")
+        for group, colour, address in ((2, "#e30613", "#2=e30613"), (1, "#ffed00", "#2=e30613&1=ffed00")):
+            # As the browser's own dialog gives it.
+            self.assertEqual(page.run("""
+                const input = document.querySelectorAll('#colours input')[arguments[0] - 1];
+                input.value = arguments[1];
+                input.dispatchEvent(new Event('change', { bubbles: true }));
+                return location.hash;
+            """, group, colour), address)
         for css in (".arc g:nth-of-type(2) .seat", ".legend li:nth-child(2) .seat", "#seats thead th:nth-child(3) .seat"):
             self.assertEqual(set(self.fills(css)), {RED}, css)
         self.assertNotIn(RED, self.fills(".arc g:nth-of-type(1) .seat"))
-        self.choose(1, "#ffed00")
-        self.assertEqual(self.address(), "#2=e30613&1=ffed00")
         page.run("document.getElementById('colours').open = true; [...document.querySelectorAll('#colours button')][0].click()")
-        self.assertEqual((self.address(), self.fills(".arc g:nth-of-type(2) .seat")), ("", before))
+        self.assertEqual((page.run("return location.hash"), self.fills(".arc g:nth-of-type(2) .seat")), ("", before))
 
-    def test_they_are_there_again(self):
-        """A page that is opened at this address has them, before there are seats too, and shows them to be chosen anew."""
-        page = self.at("#2=E30613&1=ffed00", *SO_FAR)
-        self.assertEqual(self.fills("#votes-so-far .part"), [YELLOW, RED, self.fills("#votes-so-far .part")[2]])
-        said = page.run("return [...document.querySelectorAll('#colours input')].map((one) => one.value)")
-        self.assertEqual(said[:2], ["#ffed00", "#e30613"])
-        self.assertEqual(said[2], "#009e73")
+        self.at("#2=E30613&1=ffed00", *SO_FAR)
+        self.assertEqual(self.fills("#votes-so-far .part")[:2], [YELLOW, RED])
+        self.assertEqual(page.run(VALUES), ["#ffed00", "#e30613", "#009e73"])
         page.run("location.hash = '#3=e30613'")
         page.wait("return document.querySelectorAll('#colours input')[2].value === '#e30613'")
         self.assertEqual(self.fills("#votes-so-far .part")[2], RED)
 
+
+class Colours(Chosen, Case):
     def test_another_address_has_no_colours(self):
-        """Only a number of a group and a colour of six digits count."""
-        for address in ("#x", "#0=e30613", "#33=e30613", "#2=red", "#2=e3061", "#2=e30613}body{display:none", "#2", "#__proto__=e30613"):
+        for address in NONE:
             with self.subTest(address):
                 page = self.at(address, *SO_FAR)
                 rules = page.run("return [...document.styleSheets[0].cssRules].map((it) => it.selectorText ?? '')")
@@ -68,22 +60,23 @@ class Chosen:
                 self.assertIn("9 of 9 returns are in.", page.text("#so-far"))
 
     def test_the_part_stays_open(self):
-        """All is made anew by another language, and the focus is where it was."""
+        """All is made anew by another language, and the focus is where it was. The keyboard is enough."""
         page = self.at("", *SO_FAR)
-        page.run("document.getElementById('colours').open = true; show()")
+        page.run("document.querySelector('#colours summary').focus()")
+        page.press(Keys.ENTER, Keys.TAB)
+        page.run("show()")
         self.assertEqual(page.text("#colours th bdi"), "A")
-        self.assertEqual(page.one("#colours input").get_attribute("aria-label").strip("\u2068\u2069"), "Colour of \u2068A")
-        page.run("document.querySelectorAll('#colours input')[1].focus(); show()")
-        self.assertTrue(page.run("return document.activeElement === document.querySelectorAll('#colours input')[1]"))
+        self.assertEqual(page.driver.switch_to.active_element.get_attribute("aria-label").strip("\u2068\u2069"), "Colour of \u2068A")
+        page.press(Keys.TAB, Keys.TAB, Keys.TAB)
+        self.assertEqual(page.driver.switch_to.active_element.text, "Colours by number again")
         page.speak("de")
         self.assertIn("die Adresse dieser Seite behält sie", page.text("#colours"))
 
-
-class Chromium(Chosen, Case):
     def test_any_colour_can_be_seen(self):
-        """The number on it is black or white, whichever stands out, and its edge stands out from the ground, light and dark."""
+        """The number on it is black or white, whichever stands out, and its edge stands out from the ground, light and dark. The bar has
+        its own colour."""
         colours = ("000000", "ffffff", "ffed00", "e30613", "777777", "161719", "0b3861")
-        page = self.at("#" + "&".join(f"{i}={colour}" for i, colour in enumerate(colours, 1)), ("sheet.txt", LARGEST.sheet()))
+        page = self.at("#" + "&".join(f"{i}={colour}" for i, colour in enumerate(colours, 1)), LARGEST.sheet())
         for scheme in ("light", "dark"):
             self.has_medium(scheme=scheme)
             ground = page.one("body").value_of_css_property("background-color")
@@ -95,22 +88,5 @@ class Chromium(Chosen, Case):
                 """, number)
                 self.assertGreaterEqual(contrast(stroke, ground), 3, (number, scheme))
                 self.assertGreaterEqual(contrast(on, fill), 4.5, (number, scheme))
-
-    def test_by_the_keyboard(self):
-        page = self.at("", ("sheet.txt", EXAMPLE), *SO_FAR)
-        page.run("document.querySelector('#colours summary').focus()")
-        page.press(Keys.ENTER, Keys.TAB)
-        self.assertTrue(page.run("return document.activeElement === document.querySelector('#colours input')"))
-        page.press(Keys.TAB, Keys.TAB, Keys.TAB)
-        self.assertEqual(page.driver.switch_to.active_element.text, "Colours by number again")
-
-    def test_they_say_nothing_of_the_verdict(self):
-        self.at("#1=b00020", ("sheet.txt", EXAMPLE), *(("setup.toml", OTHERS[0]), ("held.csv", OTHERS[1])))
+        self.at("#1=b00020", EXAMPLE, EXAMPLE_SETUP, ROWS).proved("right")
         self.bar_is("right", "✓ Right")
-
-
-class Firefox(Chosen, Case):
-    @classmethod
-    def setUpClass(cls):
-        cls.driver = firefox.started()
-        cls.page = browser.Page(cls.driver, cls.path)

@@ -4,6 +4,12 @@ import sheets
 from case import EXAMPLE, EXAMPLE_SETUP, LARGEST, OTHERS, ROWS, WRONG, WRONG_KEY, Case, changed
 from sheets import ZURICH
 
+DIVISOR = changed(EXAMPLE, "205.000000", "150.000000")
+NO_DIVISOR = changed(EXAMPLE, "seats 5 divisor 1.000000 A", "seats 5 divisor - A")
+ELEVEN, MORE = changed(EXAMPLE_SETUP, HOUSE := "house = 10", "house = 11"), changed(ROWS, VOTES := "1,1,1,525", "1,1,1,526")
+OF_DIVISOR, NO_CHANGE, NOR = "Wrong: a divisor; the seats are right", "No seat changes.", "Nor does it match the other files:"
+OTHER_SEATS = "other seats follow from the votes on the sheet: Nord, A 3, not 2."
+
 
 def moved(*seats):
     """The example with other seats of some lists: (place, seats) each."""
@@ -14,72 +20,84 @@ def moved(*seats):
     return sheet
 
 
+# Headings of sheets that are wrong themselves, what is said of each below it, and the files.
+KINDS = (
+    (OF_DIVISOR, ["The divisor of Nord is 150.000000 on the sheet; between 200 and 210 it would give these seats.", NO_CHANGE], DIVISOR, *OTHERS),
+    (OF_DIVISOR, ["The divisor of A is 1.500000 on the sheet; between "], changed(EXAMPLE, "1.000000 A", "1.500000 A"), *OTHERS),
+    # Of two that are wrong none is named.
+    (OF_DIVISOR, ["Line 11 of the sheet: Nord, A: 525 / (150", NO_CHANGE], changed(DIVISOR, "190.000000", "100.000000"), *OTHERS),
+    (OF_DIVISOR, [], NO_DIVISOR, *OTHERS),
+    (OF_DIVISOR, [], NO_DIVISOR.replace("divisor 1.000000", "divisor -"), *OTHERS),
+    (OF_DIVISOR, ["The divisor of Nord is 0.000000 on the sheet"], changed(EXAMPLE, "205.000000", "0.000000"), *OTHERS),
+    # What fails first is named.
+    ("Wrong: a number of voters; the seats are right", ["Line 11 of the sheet: Nord, A: 525 / 5, rounded, is 105 voters, and not 104", NO_CHANGE],
+     changed(DIVISOR, "525 voters 105", "525 voters 104"), *OTHERS),
+    ("Wrong: a key; the seats are right", ["Line 3 of the sheet: the key should be 10,000/10, and not 10,000/9", NO_CHANGE],
+     changed(EXAMPLE, "10000/10", "10000/9"), *OTHERS),
+    ("Wrong: a sum of votes; the seats are right", ["Line 5 of the sheet: Nord: the votes of its lists make 1,000, and not 999", NO_CHANGE],
+     changed(EXAMPLE, "votes 1000", "votes 999"), *OTHERS),
+    ("Wrong: who takes part; the seats are right",
+     ["Line 10 of the sheet: C: by its votes this group takes part (quorum yes); the sheet says no", NO_CHANGE],
+     changed(EXAMPLE, "quorum yes voters 70", "quorum no voters 70"), *OTHERS),
+    ("Wrong: 1 seat", ["Seats change.", "other seats follow from the returns: Nord, A 3, not 2."], WRONG, *OTHERS),
+    ("Wrong: 1 seat", [OTHER_SEATS], WRONG),
+    ("Wrong: 3 seats", ["Nord, A 3, not 2; Nord, B 1, not 2; Mitte, A 1, not 2; 2 more."],
+     moved(("1 1", 2), ("1 2", 2), ("2 1", 2), ("2 2", 1), ("3 1", 0)), *OTHERS),
+    ("Wrong: 1 seat", ["In Nord the sheet gives B 1 seat that belongs to A."], moved(("1 1", 2), ("1 2", 2)), *OTHERS),
+    ("Wrong: a total of seats", ["A in total 5, not 6"], changed(EXAMPLE, "voters 230 seats 5", "voters 230 seats 6"), *OTHERS),
+    # Beside other files that do not match, the seats that are said to follow are those of its own votes.
+    *(("Wrong: 1 seat", ["Seats change.", OTHER_SEATS, NOR], WRONG, *files) for files in ((ELEVEN, ROWS), (EXAMPLE_SETUP, MORE), (ELEVEN, MORE))),
+    (OF_DIVISOR, ["The divisor of Nord is 150", NO_CHANGE, NOR], DIVISOR, ELEVEN, ROWS),
+    ("Wrong: a sum of votes", ["Whether seats change is not known"], changed(EXAMPLE, "list 1 3 votes 175 voters 35 seats 1\n", ""), EXAMPLE_SETUP),
+    ("Wrong: this is not a sheet", ["Line 1 of the sheet: it does not belong here"], "hello\n"))
+
+
 class Kinds(Case):
-    def says(self, heading, *sentences, files, state="wrong"):
+    def says(self, heading, sentences, *files, state="wrong"):
         sign = {"wrong": "✗", "mismatch": "≠", "damaged": "!"}[state]
-        page = self.page.sheet(*files)
+        page = self.page.show(*files).proved("wrong")
         self.bar_is(state, f"{sign} {heading}")
         for one in sentences:
             self.assertIn(one, page.text("#why"))
         return page
 
+    def test_wrong_sheets(self):
+        for heading, sentences, *files in KINDS:
+            with self.subTest(heading, sentences=sentences):
+                why = " ".join(self.says(heading, sentences, *files).texts("#why p"))
+                self.assertEqual("would give these seats" in why, "The divisor of " in "".join(sentences))
+                self.assertEqual(self.page.texts("#why .caveat"), [])
+
     def test_a_divisor(self):
         """The seats are right, and the table's panel says so too."""
-        page = self.says("Wrong: a divisor; the seats are right",
-                         "The divisor of Nord is 150.000000 on the sheet; between 200 and 210 it would give these seats.",
-                         "No seat changes.", files=(changed(EXAMPLE, "205.000000", "150.000000"), *OTHERS))
+        page = self.says(OF_DIVISOR, [NO_CHANGE], DIVISOR, *OTHERS)
         self.assertEqual(page.text("#parliament h2"), "The parliament as this sheet has it")
-        self.assertIn("✗ Both checks say: wrong\nThey are the proved check and this page’s own. By the latter: a divisor, not "
-                      "the seats.", page.text("#ticks"))
+        self.assertIn("✗ Both checks say: wrong They are the proved check and this page’s own. By the latter: a divisor, not the seats.",
+                      page.text("#ticks"))
         self.assertIn("2 checks fail. No seat changes.", page.text("#count"))
         page.click("#seats tbody td button.bad")
-        self.assertIn("Right by this page’s count\n3 seats", page.text("#detail").replace("  ", "\n"))
-        self.says("Wrong: a divisor; the seats are right", "The divisor of A is 1.500000 on the sheet; between ",
-                  files=(changed(EXAMPLE, "1.000000 A", "1.500000 A"), *OTHERS))
-        # What fails first is named.
-        voters = changed(changed(EXAMPLE, "525 voters 105", "525 voters 104"), "205.000000", "150.000000")
-        page = self.says("Wrong: a number of voters; the seats are right", "Line 11 of the sheet: Nord, A: 525 / 5",
-                         files=(voters, *OTHERS))
-        self.assertNotIn("would give these seats", page.text("#why"))
-        # Of two that are wrong none is named.
-        two = changed(changed(EXAMPLE, "205.000000", "150.000000"), "190.000000", "100.000000")
-        page = self.says("Wrong: a divisor; the seats are right", "Line 11 of the sheet: Nord, A: 525 / (150",
-                         "No seat changes.", files=(two, *OTHERS))
-        self.assertNotIn("would give these seats", page.text("#why"))
-
-    def test_a_group_without_a_divisor(self):
-        one = changed(EXAMPLE, "seats 5 divisor 1.000000 A", "seats 5 divisor - A")
-        self.says("Wrong: a divisor; the seats are right", files=(one, *OTHERS))
-        for sheet in (one.replace("divisor 1.000000", "divisor -"), changed(EXAMPLE, "205.000000", "0.000000")):
-            self.assertEqual(self.page.sheet(sheet, *OTHERS).state(), "wrong")
+        self.assertIn("Right by this page’s count 3 seats", page.text("#detail"))
 
     def test_seats(self):
-        page = self.says("Wrong: 1 seat", "Seats change.", "other seats follow from the returns: Nord, A 3, not 2.",
-                         files=(WRONG, *OTHERS))
-        self.assertEqual(page.text("#parliament h2"), "The parliament as this sheet has it: with wrong seats")
-        self.says("Wrong: 1 seat", "other seats follow from the votes on the sheet: Nord, A 3, not 2.", files=(WRONG,))
-        forged = moved(("1 1", 2), ("1 2", 2), ("2 1", 2), ("2 2", 1), ("3 1", 0))
-        self.says("Wrong: 3 seats", "Nord, A 3, not 2; Nord, B 1, not 2; Mitte, A 1, not 2; 2 more.", files=(forged, *OTHERS))
-        forged = moved(("1 1", 2), ("1 2", 2))
-        self.says("Wrong: 1 seat", "In Nord the sheet gives B 1 seat that belongs to A.", files=(forged, *OTHERS))
-        total = changed(EXAMPLE, "voters 230 seats 5", "voters 230 seats 6")
-        page = self.says("Wrong: a total of seats", "A in total 5, not 6", files=(total, *OTHERS))
-        self.assertEqual(page.texts(".legend li")[0].split("\n")[-1].replace("1 A 6 ", ""), "right: 5")
+        self.assertEqual(self.page.show(WRONG, *OTHERS).text("#parliament h2"), "The parliament as this sheet has it: with wrong seats")
+        self.page.show(changed(EXAMPLE, "voters 230 seats 5", "voters 230 seats 6"), *OTHERS)
+        self.assertEqual(self.page.text(".legend li"), "1 A 6 right: 5")
 
     def test_votes_of_other_rows(self):
         """The sheet is right by its own votes, and none of what the rows would change is said to be so."""
         for new, said in (("526", "The returns have more votes: they may be newer than this sheet."),
                           ("524", "The returns have fewer votes: they may be older than this sheet.")):
             page = self.says("Does not match the returns: other votes, the same seats",
-                             f"Line 11 of the sheet: Nord, A: the returns make {new} votes, the sheet says 525",
-                             "By the returns the seats would be the same.", state="mismatch",
-                             files=(EXAMPLE, EXAMPLE_SETUP, changed(ROWS, "1,1,1,525", f"1,1,1,{new}")))
+                             [f"Line 11 of the sheet: Nord, A: the returns make {new} votes, the sheet says 525",
+                              "By the returns the seats would be the same."],
+                             EXAMPLE, EXAMPLE_SETUP, changed(ROWS, VOTES, f"1,1,1,{new}"), state="mismatch")
             self.assertIn(f"By its own votes the sheet is right. {said}", page.text("#why .caveat"))
             self.assertIn("≠ Both checks say: no match", page.text("#ticks"))
-        both = changed(changed(ROWS, "1,1,1,525", "1,1,1,325"), "1,2,1,300", "1,2,1,500")
-        page = self.says("Does not match the returns: other votes and seats", "more votes in some lists and fewer in others",
-                         "Nord, A: the returns make 325 votes", "Nord, B: the returns make 500 votes",
-                         "By the returns other seats would follow.", files=(EXAMPLE, EXAMPLE_SETUP, both), state="mismatch")
+        both = changed(changed(ROWS, VOTES, "1,1,1,325"), "1,2,1,300", "1,2,1,500")
+        page = self.says("Does not match the returns: other votes and seats",
+                         ["more votes in some lists and fewer in others", "Nord, A: the returns make 325 votes",
+                          "Nord, B: the returns make 500 votes", "By the returns other seats would follow."],
+                         EXAMPLE, EXAMPLE_SETUP, both, state="mismatch")
         self.assertIn("≠ Returns opened, but they have other votes", page.text("#ticks"))
         self.assertEqual(page.text("#parliament h2"), "The parliament as this sheet has it: the files do not match")
         self.assertNotIn("Seats change", page.text("body"))
@@ -88,46 +106,22 @@ class Kinds(Case):
         self.assertTrue(page.text("#proved p").startswith("It says that the sheet does not match the other files"))
 
     def test_another_set_up(self):
-        page = self.says("Does not match the set-up", "Line 2 of the sheet: the set-up says 11 seats in all, the sheet 10",
-                         "By this set-up other seats would follow.", state="mismatch",
-                         files=(EXAMPLE, changed(EXAMPLE_SETUP, "house = 10", "house = 11"), ROWS))
+        page = self.says("Does not match the set-up", ["Line 2 of the sheet: the set-up says 11 seats in all, the sheet 10",
+                                                       "By this set-up other seats would follow."], EXAMPLE, ELEVEN, ROWS, state="mismatch")
         self.assertIn("By its own numbers the sheet is right. The set-up may be that of another election", page.text("#why .caveat"))
         self.assertIn("≠ Set-up opened, but it does not match", page.text("#ticks"))
         self.assertIn("with 11 seats: ", page.text(".legend"))
-        self.says("Does not match the set-up", "Line 5 of the sheet: Nord: the set-up says Norden, the sheet Nord",
-                  "By this set-up the seats would be the same.", state="mismatch",
-                  files=(EXAMPLE, changed(EXAMPLE_SETUP, '"Nord"', '"Norden"'), ROWS))
-
-    def test_a_sheet_that_is_wrong_itself_stays_so_beside_other_files(self):
-        """The seats that are said to follow are then those of its own votes."""
-        others = changed(EXAMPLE_SETUP, "house = 10", "house = 11"), changed(ROWS, "1,1,1,525", "1,1,1,526")
-        for setup, held in ((others[0], ROWS), (EXAMPLE_SETUP, others[1]), others):
-            page = self.says("Wrong: 1 seat", "Seats change.", "other seats follow from the votes on the sheet: Nord, A 3, not 2.",
-                             "Nor does it match the other files:", files=(WRONG, setup, held))
-            self.assertEqual(page.text("#why .caveat"), "")
-        self.says("Wrong: a divisor; the seats are right", "No seat changes.", "Nor does it match the other files:",
-                  files=(changed(EXAMPLE, "205.000000", "150.000000"), others[0], ROWS))
-
-    def test_other_numbers(self):
-        for heading, said, old, new in (
-                ("a key", "Line 3 of the sheet: the key should be 10,000/10, and not 10,000/9", "10000/10", "10000/9"),
-                ("a number of voters", "Line 11 of the sheet: Nord, A: 525 / 5, rounded, is 105 voters, and not 104", "525 voters 105",
-                 "525 voters 104"),
-                ("a sum of votes", "Line 5 of the sheet: Nord: the votes of its lists make 1,000, and not 999", "votes 1000", "votes 999"),
-                ("who takes part", "Line 10 of the sheet: C: by its votes this group takes part (quorum yes); the sheet says no",
-                 "quorum yes voters 70", "quorum no voters 70")):
-            with self.subTest(heading):
-                sheet = changed(EXAMPLE, old, new)
-                self.says(f"Wrong: {heading}; the seats are right", said, "No seat changes.", files=(sheet, *OTHERS))
+        self.says("Does not match the set-up", ["Line 5 of the sheet: Nord: the set-up says Norden, the sheet Nord",
+                                                "By this set-up the seats would be the same."],
+                  EXAMPLE, changed(EXAMPLE_SETUP, '"Nord"', '"Norden"'), ROWS, state="mismatch")
 
     def test_what_can_not_be_read(self):
         for heading, said, sheet in (("damaged", "it ends in a carriage return", EXAMPLE.replace("\n", "\r\n")),
                                      ("cut off", "the sheet is cut off within", EXAMPLE[:300])):
-            page = self.says(f"This file is {heading}: get it again", said, files=(sheet, *OTHERS), state="damaged")
+            page = self.says(f"This file is {heading}: get it again", [said], sheet, *OTHERS, state="damaged")
             self.assertTrue(page.text("#why .caveat").startswith("The seats are not checked, and nothing is said against"))
             self.assertEqual(page.texts("#ticks li"), [])
             self.assertTrue(page.text("#proved p").startswith("It finds no whole sheet in this file. “sheet wrong” in its last line"))
-        self.says("Wrong: this is not a sheet", "Line 1 of the sheet: it does not belong here", files=("hello\n",))
 
     def test_a_sheet_that_was_copied_from_a_desk(self):
         """Its first line has no desk: whatever the file is called, the page says what is missing, and what to do."""
@@ -144,29 +138,24 @@ class Kinds(Case):
                 page.speak(language)
                 self.bar_is("damaged", heading)
                 self.assertIn(said, page.text("#why"))
-        self.holds(f"1 {copied}", EXAMPLE_SETUP, ROWS)
-        self.says("This file is damaged: get it again", "it ends in a carriage return", files=(copied.replace("\n", "\r\n"),),
-                  state="damaged")
+        page.speak("en")
+        self.says("This file is damaged: get it again", ["it ends in a carriage return"], copied.replace("\n", "\r\n"), state="damaged")
         for other in (copied.replace("provisional", "official"), f"9 {copied}", f" {copied}"):
-            self.says("Wrong: this is not a sheet", "Line 1 of the sheet: it does not belong here", files=(other, *OTHERS))
+            self.says("Wrong: this is not a sheet", ["Line 1 of the sheet: it does not belong here"], other, *OTHERS)
 
-    def test_seats_that_are_not_found(self):
-        """At a tie, and where the votes of a list are not known, no seats are said to follow."""
+    def test_at_a_tie_no_seats_are_said_to_follow(self):
         tied = "1 sheet final 1\nhouse 1\nseats key 2000/2\nupper key 20/1\n" \
                "constituency 1 persons 1000 seats 1 votes 20 divisor 15.000000 X\n" \
                "group 1 quorum yes voters 10 seats 1 divisor 1.000000 A\ngroup 2 quorum yes voters 10 seats 0 divisor - B\n" \
                "list 1 1 votes 10 voters 10 seats 1\nlist 1 2 votes 10 voters 10 seats 0\nend\n"
-        page = self.page.sheet(tied)
-        self.assertEqual(page.own(), "wrong")
-        self.assertIn("Whether seats change is not known", page.text("#why"))
-        self.says("Wrong: a sum of votes", "Whether seats change is not known",
-                  files=(changed(EXAMPLE, "list 1 3 votes 175 voters 35 seats 1\n", ""), EXAMPLE_SETUP))
+        self.assertIn("Whether seats change is not known", self.page.show(tied).text("#why"))
 
-    def test_the_seats_that_follow_are_those_of_right_sheets(self):
-        self.page.open()
+    def test_right_sheets_and_the_seats_that_follow(self):
+        """The page's own check says right of each, and finds no others: of those of the repository, and some made up with other divisors."""
         given = [found[:count] for _, *found in sheets.all_sheets() for count in (1, 2, 3)]
         sizes = ((9, 8, 125, None), (18, 9, 180, 30), (4, 3, 20, 30), (1, 5, 40, None), (20, 13, 180, 1))
         given += [model.made_up(seed, *size, quorum=quorum).files() for seed, (*size, quorum) in enumerate(sizes)]
+        self.assertEqual(set(self.page.states(*given)), {"right"})
         for files in [*given, LARGEST.files()]:
             with self.subTest(files[0][:400], given=len(files)):
                 # Null where none are found, and else where they are other than the sheet's.
@@ -178,28 +167,22 @@ class Kinds(Case):
                 """, *files), [])
 
     def test_one_and_more(self):
-        page = self.page.sheet("hello\n", EXAMPLE_SETUP)
-        self.assertIn("1 line\n", page.text(".had .sheet").replace(" Remove", "\n"))
+        page = self.page.show("hello\n", EXAMPLE_SETUP)
+        self.assertIn(" 1 line Remove", page.text(".had .sheet"))
+        one, eine = ("1 line, 1 check holds, Returns opened: the only one", "1 Zeile, 1 Prüfung bestanden, Meldungen geöffnet: die einzige")
         self.assertEqual(page.run("""
             return [1, 2, 1n].flatMap((count) => LANGUAGES.map((one) => { language = one; return [say('lines', { count }),
               say('holds', { count }), say('tickRows', { possible: count })].join(', '); }));
-        """), ["1 line, 1 check holds, Returns opened: the only one",
-               "1 Zeile, 1 Prüfung bestanden, Meldungen geöffnet: die einzige",
-               "2 lines, 2 checks hold, Returns opened: all 2",
-               "2 Zeilen, 2 Prüfungen bestanden, Meldungen geöffnet: alle 2",
-               "1 line, 1 check holds, Returns opened: the only one",
-               "1 Zeile, 1 Prüfung bestanden, Meldungen geöffnet: die einzige"])
+        """), [one, eine, "2 lines, 2 checks hold, Returns opened: all 2", "2 Zeilen, 2 Prüfungen bestanden, Meldungen geöffnet: alle 2", one, eine])
 
     def test_the_first_screen(self):
         """Verdict, election, ticks and parliament are seen at 1280 x 900 without scrolling."""
         self.has_screen(1280, 900, 1, False)
-        for files in ((EXAMPLE, *OTHERS), (EXAMPLE,), (WRONG, *OTHERS),
-                      (EXAMPLE, EXAMPLE_SETUP, changed(ROWS, "1,1,1,525", "1,1,1,526")),
-                      ZURICH, ZURICH[:1], ZURICH._replace(sheet=WRONG_KEY)):
+        for proved, *files in (("right", EXAMPLE, *OTHERS), ("alone", EXAMPLE), ("wrong", WRONG, *OTHERS), ("wrong", EXAMPLE, EXAMPLE_SETUP, MORE),
+                               ("right", *ZURICH), ("alone", ZURICH.sheet), ("wrong", WRONG_KEY, *ZURICH[1:])):
             for language in ("en", "de"):
-                page = self.page.sheet(*files)
-                page.speak(language)
-                ends = page.run("""
+                self.page.speak(language)
+                ends = self.page.show(*files).proved(proved).run("""
                     return ['#verdict', '#title', '#election', '#ticks', '.arc', '.legend'].map((css) => {
                       const { top, bottom } = document.querySelector(css).getBoundingClientRect();
                       return [css, top, bottom];
@@ -209,4 +192,4 @@ class Kinds(Case):
                     with self.subTest(css, language=language, files=len(files), sheet=files[0][:20]):
                         self.assertGreaterEqual(top, 0)
                         self.assertLessEqual(bottom, 900)
-                self.assertEqual(len(page.texts("#ticks li")), 3)
+                self.assertEqual(len(self.page.texts("#ticks li")), 3)

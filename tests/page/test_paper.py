@@ -4,16 +4,16 @@ import hashlib
 import re
 
 import model
-from case import EXAMPLE, LARGEST, WRONG_KEY, Case
+from case import EXAMPLE, EXAMPLE_SETUP, LARGEST, ROWS, WRONG_KEY, Case
 from sheets import ZURICH
 
-CALLED = "The sheet calls itself “final”"
+CALLED, FEW = "The sheet calls itself “final”", "".join(ROWS.splitlines(keepends=True)[:5])
 
 
 class Paper(Case):
     def printed(self, *files, proved="absent", pages=1):
         """What is on paper, which is A4."""
-        page = self.page.sheet(*files).proved(proved)
+        page = self.page.show(*files).proved(proved)
         pdf = base64.b64decode(self.driver.execute_cdp_cmd("Page.printToPDF", {"preferCSSPageSize": True})["data"])
         if pages is not None:
             self.assertEqual(len(re.findall(rb"/Type\s*/Page\b", pdf)), pages)
@@ -25,53 +25,49 @@ class Paper(Case):
         self.has_medium()
         return text
 
-    def test_one_page_with_kind_commands_and_lines_to_sign(self):
+    def test_one_page_with_kind_commands_files_and_lines_to_sign(self):
         text = self.printed(*ZURICH, proved="right")
         for part in (CALLED, "Right", "how many entries of the desks it counts (81, it says)", "Set-up opened", "Both checks say: right",
                      "Place", "Date", "checks hold"):
             self.assertIn(part, text)
         self.assertEqual(text.count("Signature"), 2)
         self.assertNotRegex(text, "Choose|Deutsch")
-
-    def test_the_files_and_their_sums(self):
-        text = self.printed(*ZURICH, proved="right")
         for name, content in zip(("sheet.txt", "setup.toml", "held.csv"), ZURICH):
             self.assertIn(f"{name} {hashlib.sha256(content.encode()).hexdigest()}", text)
-        self.assertNotIn("setup.toml", self.printed(ZURICH.sheet))
 
     def test_what_is_not_right_is_not_to_be_signed(self):
-        wrong = ZURICH._replace(sheet=WRONG_KEY)
-        for files, proved, said in ((wrong, "wrong", "Wrong: a key; the seats are right"),
-                                    (wrong, "right", "The two checks differ"), (ZURICH, "wrong", "The two checks differ"),
-                                    (ZURICH, "failed", "right by one check of two"),
-                                    (ZURICH[:2], "right", "right for the votes on the sheet"),
-                                    (ZURICH[:1], "alone", "the seats fit the votes on the sheet")):
-            with self.subTest(files=len(files), proved=proved):
-                text = self.printed(*files, proved=proved)
+        for sheet, others, proved, said in (
+                (WRONG_KEY, ZURICH[1:], "wrong", "Wrong: a key; the seats are right"), (WRONG_KEY, ZURICH[1:], "right", "The two checks differ"),
+                (ZURICH.sheet, ZURICH[1:], "wrong", "The two checks differ"), (ZURICH.sheet, ZURICH[1:], "failed", "right by one check of two"),
+                (ZURICH.sheet, ZURICH[1:2], "right", "right for the votes on the sheet"),
+                (ZURICH.sheet, (), "alone", "the seats fit the votes on the sheet"), (WRONG_KEY, (), "absent", "Wrong: a key; the seats are right")):
+            with self.subTest(said, files=len(others)):
+                text = self.printed(sheet, *others, proved=proved)
                 self.assertNotRegex(text, "Signature|Place|Date")
                 self.assertIn(said, text)
                 self.assertIn(CALLED, text)
+                self.assertEqual("setup.toml" in text, bool(others))
 
-    def test_a_wrong_sheet_and_the_largest_are_one_page_too(self):
-        self.assertIn("Wrong: a key; the seats are right", self.printed(WRONG_KEY))
+    def test_before_there_are_seats(self):
+        """On one page, with the files and without what is for a screen."""
+        for setup, held in ((EXAMPLE_SETUP, FEW), LARGEST.files()[1:]):
+            text = self.printed(None, setup, held)
+            self.assertIn("Computed by this page, not proved.", text)
+            self.assertIn("The files that were opened", text)
+            self.assertNotRegex(text, "Choose|Deutsch|Signature|Colours of the groups")
+
+    def test_small_and_large_ones_and_long_names_are_one_page_too(self):
         self.printed(EXAMPLE)
         self.assertIn(CALLED, self.printed(*LARGEST.files(), proved="right"))
-        sheet, setup, held = self.with_long_names(32, 32, 400)
-        self.printed(sheet, setup, held, proved="right")
+        for rows, columns in ((18, 9), (20, 20), (12, 12)):
+            self.printed(*model.made_up(5, rows, columns, 180, quorum=1).files(), proved="right")
+        for rows, columns in ((4, 4), (6, 6), (7, 10), (10, 7), (12, 12), (18, 11), (20, 13), (32, 6), (6, 32), (32, 32)):
+            with self.subTest(rows=rows, columns=columns):
+                sheet, setup, held = model.made_up(1, rows, columns, 400 if rows == columns == 32 else 180, quorum=1,
+                                                   groups=[f"Group with the longest name of all no {g:02d}" for g in range(columns)],
+                                                   names=[f"Constituency with the longest name no {d:02d}" for d in range(rows)]).files()
+                self.printed(sheet, setup, held, proved="right")
         self.printed(sheet.replace("persons", "person"), setup)
         # Hundreds of faults are on paper too, each of them, on more pages.
         text = self.printed(re.sub(r"seats 1$", "seats 2", sheet, flags=re.M), setup + "x\n", pages=None)
         self.assertGreater(text.count("rounds to 1"), 100)
-        for rows, columns in ((18, 9), (20, 20), (12, 12)):
-            self.printed(*model.made_up(5, rows, columns, 180, quorum=1).files(), proved="right")
-
-    def test_long_names_are_one_page_too(self):
-        for rows, columns in ((4, 4), (6, 6), (7, 10), (10, 7), (12, 12), (18, 11), (20, 13), (32, 6), (6, 32)):
-            with self.subTest(rows=rows, columns=columns):
-                self.printed(*self.with_long_names(rows, columns, 180), proved="right")
-
-    @staticmethod
-    def with_long_names(rows, columns, house):
-        return model.made_up(1, rows, columns, house, quorum=1,
-                             groups=[f"Group with the longest name of all no {g:02d}" for g in range(columns)],
-                             names=[f"Constituency with the longest name no {d:02d}" for d in range(rows)]).files()

@@ -6,7 +6,6 @@ import re
 
 import pytest
 
-import browser
 import firefox
 import model
 import program
@@ -15,6 +14,8 @@ from case import EXAMPLE, EXAMPLE_SETUP, LARGEST, OTHERS, ROWS, WRONG, Case
 from cases import turns
 from places import CASES
 from program import utf8
+from test_colours import Chosen
+from test_so_far import FEW, WIDTHS
 
 pytestmark = [pytest.mark.long, pytest.mark.usefixtures("program")]
 
@@ -42,8 +43,75 @@ def changes(sheet):
     yield from (sheet[:-1], sheet + "\n", sheet + sheet, sheet.replace("\n", "\r\n"), "\ufeff" + sheet, "")
 
 
-class Compared:
-    """What both checks are compared with the program on: `same` is given sheets with one set-up, and the rows held or None."""
+def checks(name):
+    """The set-up, the sheet, and the rows held or None, of each `zhcount check` of a file of cases whose files are there
+    (docs/CASES.md, "Turns on files")."""
+    for line, files in turns(CASES / name):
+        found = re.match(r"zhcount check ((?:--\w+ \S+ *)+)(?:->|$)", line)
+        named = dict(re.findall(r"--(\w+) (\S+)", found[1])) if found else {}
+        if {"setup", "sheet"} <= named.keys() and all(file in files for file in named.values()):
+            yield files[named["setup"]], files[named["sheet"]], files.get(named.get("held"))
+
+
+class Proved:
+    """The proved check in a browser."""
+
+    def answers(self, cases, in_worker):
+        """What it answers on each of these, as the page asks it: in a worker of its own; or the same call in the page, with the module
+        compiled once, which is faster."""
+        coded = [[None if text is None else base64.b64encode(text).decode() for text in case] for case in cases]
+        answers = self.driver.execute_async_script("""
+            const [cases, inWorker, done] = arguments;
+            const bytes = (text) => (text === null ? null : Uint8Array.from(atob(text), (c) => c.charCodeAt(0)));
+            const coded = (text) => btoa(Array.from(text, (c) => String.fromCharCode(c)).join(''));
+            (async () => {
+              const answers = [];
+              const module = inWorker ? null : await WebAssembly.compile(moduleBytes());
+              const ask = inWorker ? asked : (texts) => provedCheck(module, texts);
+              for (const [setup, sheet, held] of cases) {
+                const { status, text } = await ask({ setup: bytes(setup), sheet: bytes(sheet), held: bytes(held) });
+                answers.push([status, coded(text)]);
+              }
+              return answers;
+            })().then(done, (fault) => done(String(fault)));
+        """, coded, in_worker)
+        self.assertIsInstance(answers, list)
+        return [(status, base64.b64decode(text)) for status, text in answers]
+
+    def same_answers(self, cases):
+        """The page answers each of these as the program does, byte for byte; and some of them in a worker."""
+        self.page.open()
+        for some, in_worker in ((cases, False), (cases[::WORKER], True)):
+            for case, answer, wanted in zip(some, self.answers(some, in_worker), program.answers(some), strict=True):
+                with self.subTest(case[1][:400]):
+                    self.assertEqual(answer, wanted)
+
+    def test_each_check_of_the_cases(self):
+        for name, least in zip(CHECKED, (80, 80, 200)):
+            cases = list(dict.fromkeys(checks(name)))
+            self.assertGreaterEqual(len(cases), least)
+            self.same_answers(cases)
+
+    def test_right_and_wrong(self):
+        for sheet, state, heading in ((EXAMPLE, "right", "✓ Right"), (WRONG, "wrong", "✗ Wrong: 1 seat")):
+            page = self.page.sheet(sheet, *OTHERS)
+            self.bar_is(state, heading)
+            self.assertTrue(page.text("#proved p").startswith(f"It says that the sheet is {state}. "), page.text("#proved p"))
+            shown = page.one("#proved pre").get_property("textContent").encode()
+            self.assertEqual((int(state == "wrong"), shown), program.answer(*utf8(EXAMPLE_SETUP, sheet, ROWS)))
+
+
+class Chromium(Proved, Case):
+    def same(self, *found):
+        """Of sheets with one set-up, and the rows held or None, each: the proved check answers as the program does, and the page's own says
+        right or wrong as that does."""
+        cases = [(text, setup, held) for texts, setup, held in found for text in texts]
+        coded = [utf8(setup, text, held) for text, setup, held in cases]
+        self.same_answers(coded)
+        for (text, *_), (status, answer), state in zip(cases, program.answers(coded), self.page.states(*cases), strict=True):
+            with self.subTest(text[:400]):
+                self.assertTrue(status == 0 or status == 1 and answer.endswith(b"sheet wrong\n"), answer)
+                self.assertEqual(state, "wrong" if status else "right")
 
     def test_each_sheet_of_the_repository(self):
         found = [*sheets.all_sheets()]
@@ -65,101 +133,19 @@ class Compared:
         self.same(([election.sheet(), election.sheet(part=[True] * 3 + [False, True])], election.setup(), election.held()),
                   *(([EXAMPLE], EXAMPLE_SETUP, held) for held in rows))
 
-
-class Own(Compared, Case):
-    def same(self, *found):
-        for texts, setup, held in found:
-            answers = program.answers([utf8(setup, text, held) for text in texts])
-            for text, state, (status, answer) in zip(texts, self.page.states(texts, setup, held), answers, strict=True):
-                with self.subTest(text[:400]):
-                    self.assertTrue(status == 0 or status == 1 and answer.endswith(b"sheet wrong\n"), answer)
-                    self.assertEqual(state, "wrong" if status else "right")
-
-
-def answers_of(driver, cases, in_worker):
-    """What the proved check of the page that is open answers on each of these cases, as the page asks it: in a worker of its own; or
-    the same call in the page, with the module compiled once, which is faster."""
-    coded = [[None if text is None else base64.b64encode(text).decode() for text in case] for case in cases]
-    answers = driver.execute_async_script("""
-        const [cases, inWorker, done] = arguments;
-        const bytes = (text) => (text === null ? null : Uint8Array.from(atob(text), (c) => c.charCodeAt(0)));
-        const coded = (text) => btoa(Array.from(text, (c) => String.fromCharCode(c)).join(''));
-        (async () => {
-          const answers = [];
-          const module = inWorker ? null : await WebAssembly.compile(moduleBytes());
-          const ask = inWorker ? asked : (texts) => provedCheck(module, texts);
-          for (const [setup, sheet, held] of cases) {
-            const { status, text } = await ask({ setup: bytes(setup), sheet: bytes(sheet), held: bytes(held) });
-            answers.push([status, coded(text)]);
-          }
-          return answers;
-        })().then(done, (fault) => done(String(fault)));
-    """, coded, in_worker)
-    if isinstance(answers, str):
-        raise AssertionError(answers)
-    return [(status, base64.b64decode(text)) for status, text in answers]
-
-
-def checks(name):
-    """The set-up, the sheet, and the rows held or None, of each `zhcount check` of a file of cases whose files are there
-    (docs/CASES.md, "Turns on files")."""
-    for line, files in turns(CASES / name):
-        found = re.match(r"zhcount check ((?:--\w+ \S+ *)+)(?:->|$)", line)
-        named = dict(re.findall(r"--(\w+) (\S+)", found[1])) if found else {}
-        if {"setup", "sheet"} <= named.keys() and all(file in files for file in named.values()):
-            yield files[named["setup"]], files[named["sheet"]], files.get(named.get("held"))
-
-
-class Proved:
-    """The proved check in a browser, which has opened the page."""
-
-    def setUp(self):
-        self.page.open()
-
-    def same_answers(self, cases):
-        """The page answers each of these as the program does, byte for byte; and some of them in a worker."""
-        for some, in_worker in ((cases, False), (cases[::WORKER], True)):
-            for case, answer, wanted in zip(some, answers_of(self.driver, some, in_worker), program.answers(some), strict=True):
-                with self.subTest(case[1][:400]):
-                    self.assertEqual(answer, wanted)
-
-    def test_each_check_of_the_cases(self):
-        for name, least in zip(CHECKED, (80, 80, 200)):
-            cases = list(dict.fromkeys(checks(name)))
-            self.assertGreaterEqual(len(cases), least)
-            self.same_answers(cases)
-
-    def test_right_and_wrong(self):
-        for sheet, state, heading in ((EXAMPLE, "right", "✓ Right"), (WRONG, "wrong", "✗ Wrong: 1 seat")):
-            page = self.page.sheet(sheet, *OTHERS)
-            self.bar_is(state, heading)
-            self.assertTrue(page.text("#proved p").startswith(f"It says that the sheet is {state}. "), page.text("#proved p"))
-            shown = page.one("#proved pre").get_property("textContent").encode()
-            self.assertEqual((int(state == "wrong"), shown), program.answer(*utf8(EXAMPLE_SETUP, sheet, ROWS)))
-
-
-class Chromium(Proved, Compared, Case):
-    def same(self, *found):
-        self.same_answers([utf8(setup, text, held) for texts, setup, held in found for text in texts])
-
-    def test_each_set_up_of_the_cases(self):
+    def test_what_it_refuses(self):
+        """Set-ups of the cases, rows, and texts that are too long."""
         setups = dict.fromkeys(files[found[1]] for line, files in turns(CASES / "program_setups.case")
                                if (found := re.search(r"--setup (\S+)", line)) and found[1] in files)
         self.assertGreaterEqual(len(setups), 30)
-        self.same_answers([(setup, EXAMPLE.encode(), None) for setup in setups])
-
-    def test_rows_that_are_refused(self):
         rows = [ROWS.replace(old, new) for old, new in (
             ("1,3,1,175", "1,2,1,175"), ("1,2,1,300", "1,4,1,300"), ("3,3,", "9,3,"), ("525", "x"), ("525", "1000000001"),
             ("525", "4294967296"), ("\n", "\r\n"))]
-        self.same(*(([EXAMPLE], EXAMPLE_SETUP, held) for held in [*rows, ""]))
-
-    def test_the_largest_and_the_longest(self):
+        self.same_answers([*((setup, EXAMPLE.encode(), None) for setup in setups), *(utf8(EXAMPLE_SETUP, EXAMPLE, held) for held in [*rows, ""])])
         sheet, *others = LARGEST.files()
-        self.same(([sheet], *others), (["x" * 300_000, EXAMPLE * 700], EXAMPLE_SETUP, None), ([EXAMPLE], "#" * 1_048_577, None),
-                  ([EXAMPLE], "[" * 500_000, None), ([""], EXAMPLE_SETUP, ""), ([""], "", None),
-                  (["1 sheet " + "9" * 270_000], *OTHERS))
-        self.same_answers([(EXAMPLE_SETUP.encode(), EXAMPLE.encode().replace(b"Mitte", b"Mitt\xe9"), None)])
+        self.same_answers([utf8(*it) for it in (
+            (others[0], sheet, others[1]), (EXAMPLE_SETUP, "x" * 300_000, None), (EXAMPLE_SETUP, EXAMPLE * 700, None), ("#" * 1_048_577, EXAMPLE, None),
+            ("[" * 500_000, EXAMPLE, None), (EXAMPLE_SETUP, "", ""), ("", "", None), (EXAMPLE_SETUP, "1 sheet " + "9" * 270_000, ROWS))])
 
     def test_the_verdict_is_saved(self):
         sheet = EXAMPLE.encode().replace(b"Mitte", b"Mitt\xe9")
@@ -176,8 +162,13 @@ class Chromium(Proved, Compared, Case):
         self.assertEqual(bytes(page.run("return window.saved")), program.answer(EXAMPLE_SETUP.encode(), sheet)[1])
 
 
-class Firefox(Proved, Case):
-    @classmethod
-    def setUpClass(cls):
-        cls.driver = firefox.started()
-        cls.page = browser.Page(cls.driver, cls.path)
+class Firefox(Proved, Chosen, Case):
+    """The proved check, and what is drawn."""
+    starts = staticmethod(lambda language: firefox.started())
+
+    def test_how_far_the_count_is(self):
+        page = self.page.choose(("setup.toml", EXAMPLE_SETUP), ("held.csv", FEW))
+        self.assertEqual((page.text("#verdict"), page.text("#votes-so-far tbody tr")),
+                         ("i 4 of 9 returns are in", "1 A 765 61.69% ✓ reached in Nord, Mitte"))
+        for is_now, should in zip(page.run(WIDTHS, "#held-so-far"), [1, 1 / 3, 0]):
+            self.assertAlmostEqual(is_now, should, delta=0.03)

@@ -10,27 +10,23 @@ from places import TOP
 
 
 class Shown(Case):
-    def shows(self, state, said, *files):
-        """The colour of the bar, and how what is said of the proved check begins."""
-        page = self.page.sheet(*files)
-        self.assertEqual(page.state(), state)
-        self.assertTrue(page.text("#proved p").startswith(said), page.text("#proved"))
-        return page
-
     def is_now(self, state, end):
         self.assertEqual(self.page.state(), state)
         self.assertTrue(self.page.text("#proved pre").endswith(end), self.page.text("#proved pre"))
 
     def test_the_verdict_is_that_of_this_sheet(self):
-        page = self.shows("right", "It says that the sheet is right. ", EXAMPLE, *OTHERS)
-        for name, text, state in (("sheet.txt", WRONG, "wrong"), ("sheet.txt", EXAMPLE, "right"),
-                                  ("held.csv", ROWS.replace("525", "526"), "mismatch"), ("held.csv", ROWS, "right"),
+        self.assertEqual(self.page.text("#proved"), "")
+        page = self.page.choose(("sheet.txt", EXAMPLE))
+        self.assertEqual((page.state(), page.text("#proved p")), ("unsure", "It did not run: it needs the set-up."))
+        for name, text, state in (("setup.toml", EXAMPLE_SETUP, "unsure"), ("held.csv", ROWS, "right"), ("sheet.txt", WRONG, "wrong"),
+                                  ("sheet.txt", EXAMPLE, "right"), ("held.csv", ROWS.replace("525", "526"), "mismatch"), ("held.csv", ROWS, "right"),
                                   ("setup.toml", EXAMPLE_SETUP.replace("5000", "5001"), "mismatch")):
             page.choose((name, text))
-            self.is_now(state, "no other seats follow from these votes" if state == "right" else "sheet wrong")
+            end = {"right": "no other seats follow from these votes", "unsure": "these votes; that they were returned is not checked"}
+            self.is_now(state, end.get(state, "sheet wrong"))
 
     def test_an_answer_that_comes_late_is_not_shown(self):
-        page = self.page.open()
+        page = self.page
         page.run("""
             const first = asked;
             window.late = [];
@@ -47,55 +43,77 @@ class Shown(Case):
         self.is_now("wrong", "sheet wrong")
 
     def test_while_it_runs_nothing_is_green(self):
-        page = self.page.open()
-        page.run("asked = () => new Promise(() => {})")
-        page.give(("setup.toml", EXAMPLE_SETUP), ("sheet.txt", EXAMPLE), ("held.csv", ROWS))
-        page.wait("return document.body.dataset.own === 'right'")
-        self.assertEqual((page.state(), page.run("return document.body.dataset.proved")), ("unsure", "runs"))
-
-    def test_without_a_set_up(self):
-        self.shows("unsure", "It did not run: it needs the set-up.", EXAMPLE)
-        self.assertEqual(self.page.open().text("#proved"), "")
+        page = self.page.show(EXAMPLE, *OTHERS)
+        self.assertEqual((*page.bar(), page.run("return document.body.dataset.proved")), ("right", "unsure", "runs"))
 
     def test_what_it_refuses(self):
-        page = self.shows("unsure", "It did not run. It reports", EXAMPLE, EXAMPLE_SETUP.replace("house = 10", "house = 401"))
-        self.assertEqual(page.text("#proved pre"), "setup range\nhouse")
-        self.assertIn("The proved check did not run: setup range, house", page.text("#ticks"))
-        page = self.shows("unsure", "It did not run. It reports", EXAMPLE, EXAMPLE_SETUP, ROWS.replace("1,3,1,175", "1,2,1,175"))
-        self.assertEqual(page.text("#proved pre"), "held twice")
-
-    def test_where_the_two_differ(self):
-        for sheet, status in ((EXAMPLE, 1), (WRONG, 0)):
-            self.page.sheet(sheet, *OTHERS, before=f"asked = async () => ({{ status: {status}, text: new Uint8Array(3) }})")
-            self.bar_is("wrong", "✗ The two checks differ")
+        for files, said, why in (((EXAMPLE, EXAMPLE_SETUP.replace("house = 10", "house = 401")), "setup range house", "setup range, house"),
+                                 ((EXAMPLE, EXAMPLE_SETUP, ROWS.replace("1,3,1,175", "1,2,1,175")), "held twice", "held twice")):
+            page = self.page.sheet(*files)
+            self.is_now("unsure", said)
+            self.assertTrue(page.text("#proved p").startswith("It did not run. It reports"))
+            self.assertIn(f"The proved check did not run: {why}", page.text("#ticks"))
 
     def test_which_page_this_is(self):
         """Its foot says of which version it is, and how that is found out: by a command, with the sum in README. It shows no sum itself."""
-        foot = self.page.open().text("#which")
+        foot = self.page.text("#which")
         self.assertTrue(foot.startswith(f"Is this the real page of zhcount {(TOP / 'VERSION').read_text().strip()}?"), foot)
         self.assertIn("Compute the SHA-256 of this file, and compare it with one that you did not get together with this page", foot)
-        command = re.search(r"Linux: (.*)", foot)[1]
+        command = re.search(r"Linux: (\w+ \S+)", foot)[1]
         told = subprocess.run(command.split(), cwd=browser.PAGE.parent, stdout=subprocess.PIPE, text=True, check=True).stdout
         self.assertIn(f"`{told.split()[0]}`", (TOP / "README.md").read_text())
         self.assertEqual(re.findall("[0-9a-f]{8,}", self.page.text("body")), [])
 
-    def test_german(self):
-        page = self.shows("right", "It says", EXAMPLE, *OTHERS)
-        page.speak("de")
-        self.assertEqual((page.state(), page.text("#proved h2")), ("right", "Die bewiesene Prüfung"))
-        self.is_now("right", "no other seats follow from these votes")
-
 
 class Failing(Case):
     """The proved check does not run: the page says so, and is never green."""
+
+    def another(self, text):
+        """A page with this text."""
+        path = pathlib.Path(self.page.room.name, "other.html")
+        path.write_text(text)
+        return browser.Page(self.driver, path)
 
     def fails_with(self, why, page=None, before=""):
         page = (page or self.page).sheet(EXAMPLE, *OTHERS, before=before)
         self.bar_is("unsure", "! Not fully checked: right by one check of two")
         self.assertRegex(page.text("#ticks"), "The proved check did not run: " + why)
         self.assertRegex(page.text("#proved p"), "^It did not run: " + why)
-        page.choose(("sheet.txt", WRONG))
+        self.assertEqual(page.choose(("sheet.txt", WRONG)).state(), "wrong")
+
+    def test_the_module_is_taken_out(self):
+        self.fails_with("its module is missing from this page", self.another(seals.with_module(self.path.read_text(), b"")))
+
+    def test_the_module_is_cut_or_another_or_forbidden(self):
+        module, text = seals.SEAL.module_in(self.path), self.path.read_text()
+        for other in (module[:-1], module[:1000], b"\0asm\1\0\0\0", b"no module"):
+            with self.subTest(len(other)):
+                self.fails_with(".", self.another(seals.with_module(text, other)))
+        self.fails_with(".", self.another(changed(text, " 'wasm-unsafe-eval'", "")))
+
+    def test_what_the_browser_has_not(self):
+        for why, before in (("this browser has no WebAssembly", "delete window.WebAssembly"),
+                            ("there was too little memory", "asked = async () => ({ status: 4, text: new Uint8Array(0) })"),
+                            ("there was too little memory", "asked = async () => { throw new RangeError('memory'); }"),
+                            ("it took longer than 60 seconds", """
+                                window.Worker = class { postMessage() {} terminate() {} };
+                                const first = setTimeout;
+                                window.setTimeout = (call, time) => first(call, time === 60000 ? 0 : time);
+                            """)):
+            with self.subTest(before):
+                self.fails_with(why, before=before)
+
+    def test_rows_that_are_too_long(self):
+        page = self.page.sheet(EXAMPLE, EXAMPLE_SETUP, ROWS + "\n" * 1_048_577)
+        self.assertEqual(page.state(), "unsure")
+        self.assertIn("the returns are too long", page.text("#proved"))
+
+    def test_without_a_worker_it_runs_in_the_page(self):
+        self.another(changed(self.path.read_text(), "worker-src blob:", "worker-src 'none'")).sheet(EXAMPLE, *OTHERS)
+        self.bar_is("right", "✓ Right")
+        page = self.page.sheet(WRONG, EXAMPLE_SETUP, before="Worker = class { constructor() { throw new Error('none'); } }")
         self.assertEqual(page.state(), "wrong")
+        self.assertTrue(page.text("#proved pre").endswith("sheet wrong"))
 
     def test_the_page_itself_fails(self):
         """No verdict of the files before stays."""
@@ -109,47 +127,3 @@ class Failing(Case):
                 self.assertEqual(page.own(), "failed")
                 self.assertEqual(page.text("#why"), "Nothing that it said of these files counts: Error: a fault")
                 self.assertEqual(page.texts("#ticks li, #shown section, #signatures p"), [])
-
-    def another(self, text):
-        """A page with this text."""
-        path = pathlib.Path(self.page.room.name, "other.html")
-        path.write_text(text)
-        return browser.Page(self.driver, path)
-
-    def test_the_module_is_taken_out(self):
-        self.fails_with("its module is missing from this page", self.another(seals.with_module(self.path.read_text(), b"")))
-
-    def test_the_module_is_cut_or_another(self):
-        module = seals.SEAL.module_in(self.path)
-        for other in (module[:-1], module[:1000], b"\0asm\1\0\0\0", b"no module"):
-            with self.subTest(len(other)):
-                self.fails_with(".", self.another(seals.with_module(self.path.read_text(), other)))
-
-    def test_the_browser_has_no_webassembly(self):
-        self.fails_with("this browser has no WebAssembly", before="delete window.WebAssembly")
-
-    def test_the_policy_forbids_it(self):
-        self.fails_with(".", self.another(changed(self.path.read_text(), " 'wasm-unsafe-eval'", "")))
-
-    def test_memory(self):
-        for asked in ("({ status: 4, text: new Uint8Array(0) })", "{ throw new RangeError('memory'); }"):
-            self.fails_with("there was too little memory", before=f"asked = async () => {asked}")
-
-    def test_time(self):
-        self.fails_with("it took longer than 60 seconds", before="""
-            window.Worker = class { postMessage() {} terminate() {} };
-            const first = setTimeout;
-            window.setTimeout = (call, time) => first(call, time === 60000 ? 0 : time);
-        """)
-
-    def test_rows_that_are_too_long(self):
-        page = self.page.sheet(EXAMPLE, EXAMPLE_SETUP, ROWS + "\n" * 1_048_577)
-        self.assertEqual(page.state(), "unsure")
-        self.assertIn("the returns are too long", page.text("#proved"))
-
-    def test_without_a_worker_it_runs_in_the_page(self):
-        self.another(changed(self.path.read_text(), "worker-src blob:", "worker-src 'none'")).sheet(EXAMPLE, *OTHERS)
-        self.bar_is("right", "✓ Right")
-        page = self.page.sheet(WRONG, EXAMPLE_SETUP, before="Worker = class { constructor() { throw new Error('none'); } }")
-        self.assertEqual(page.state(), "wrong")
-        self.assertTrue(page.text("#proved pre").endswith("sheet wrong"))

@@ -3,7 +3,7 @@ import itertools
 import re
 
 import model
-from case import EXAMPLE, EXAMPLE_SETUP, LARGEST, OTHERS, ROWS, Case, changed
+from case import EXAMPLE, EXAMPLE_SETUP, LARGEST, OTHERS, ROWS, WRONG_KEY, Case, changed
 from sheets import ZURICH
 
 TURNED, HEBREW = "\u202eX 11", "\u05d0\u05d1 11"
@@ -20,13 +20,6 @@ def contrast(one, other):
 
 
 class Sight(Case):
-    def phone(self, *files):
-        self.has_screen(375, 667, 2, True)
-        return self.page.sheet(*files)
-
-    def click(self, css):
-        self.page.run("document.querySelector(arguments[0]).click()", css)
-
     def outside(self, name):
         """The texts with this name in them that do not stand in an element that isolates them; and such attributes."""
         return self.page.run("""
@@ -47,22 +40,21 @@ class Sight(Case):
         """, name)
 
     def test_names_are_isolated(self):
-        for name, seen in ((TURNED, "<U+202E>X 11"), (HEBREW, HEBREW)):
-            for old in ("Nord", "1.000000 A"):
-                sheet = changed(EXAMPLE, old, f"1.000000 {name}" if old != "Nord" else name)
-                for files in ((sheet,), (sheet, EXAMPLE_SETUP), (sheet, EXAMPLE_SETUP.replace('"A"', f'"{name}"'), ROWS)):
-                    page = self.page.sheet(*files)
-                    for css in ("#seats tbody th button", "#seats thead button", "#seats tbody td button"):
-                        self.click(css)
-                        self.assertEqual(self.outside(seen), [])
-                    page.choose(("other", changed(EXAMPLE, "votes 525", "votes 526")))
+        other = changed(EXAMPLE, "votes 525", "votes 526")
+        for (name, seen), old in itertools.product(((TURNED, "<U+202E>X 11"), (HEBREW, HEBREW)), ("Nord", "1.000000 A")):
+            sheet = changed(EXAMPLE, old, f"1.000000 {name}" if old != "Nord" else name)
+            for files in ((sheet,), (sheet, EXAMPLE_SETUP), (sheet, EXAMPLE_SETUP.replace('"A"', f'"{name}"'), ROWS)):
+                page = self.page.show(*files)
+                page.run("takeFiles([opened('other', new TextEncoder().encode(arguments[0]))])", other)
+                for css in ("#seats tbody th button", "#seats thead button", "#seats tbody td button"):
+                    page.run("document.querySelector(arguments[0]).click()", css)
                     self.assertEqual(self.outside(seen), [])
-                    self.assertNotIn("\u202e", page.one("body").get_attribute("outerHTML"))
+                self.assertNotIn("\u202e", page.one("body").get_attribute("outerHTML"))
 
     def test_a_name_turns_no_number_round(self):
-        """11 seats after a name are read as 11, and stand on its right."""
-        page = self.page.sheet(changed(EXAMPLE, "Nord", HEBREW))
-        self.click("#seats tbody th button")
+        """11 seats after a name are read as 11, and stand on its right; and the name of a file."""
+        page = self.page.show(changed(EXAMPLE, "Nord", HEBREW))
+        page.click("#seats tbody th button")
         name, after = page.run("""
             const heading = document.querySelector('#detail h2');
             const end = document.createRange();
@@ -72,67 +64,54 @@ class Sight(Case):
             return [heading.querySelector('bdi').getBoundingClientRect().right, end.getBoundingClientRect().left];
         """)
         self.assertGreaterEqual(after, name)
-
-    def test_the_name_of_a_file(self):
-        self.page.open().choose(("a\u202etxt.toml", EXAMPLE))
-        self.assertEqual(self.page.text(".had .file bdi"), "a<U+202E>txt.toml")
+        self.assertEqual(page.open().choose(("a\u202etxt.toml", EXAMPLE)).text(".had .file bdi"), "a<U+202E>txt.toml")
 
     def test_edges_of_seats(self):
         """Each seat has an edge that stands out from the ground, 3 to 1, on a screen and on paper, light and dark."""
-        page = self.page.sheet(LARGEST.sheet())
+        page = self.page.show(LARGEST.sheet())
         for medium, scheme in itertools.product(("screen", "print"), ("light", "dark")):
             self.has_medium(medium, scheme)
-            shapes = page.run("""
-                return [...document.querySelectorAll('.arc .seat, .arc .hole, .swatch .seat')].map((shape) =>
-                  [shape.getAttribute('class'), getComputedStyle(shape).stroke]);
+            ground, letters, *shapes = page.run("""
+                const { backgroundColor, color } = getComputedStyle(document.body);
+                const shapes = [...document.querySelectorAll('.arc .seat, .arc .hole, .swatch .seat')];
+                return [backgroundColor, color, ...shapes.map((shape) => [shape.getAttribute('class'), getComputedStyle(shape).stroke])];
             """)
-            ground = page.one("body").value_of_css_property("background-color")
+            self.assertEqual(luminance(ground) < luminance(letters), (medium, scheme) == ("screen", "dark"))
+            self.assertGreater(contrast(ground, letters), 10)
             self.assertGreater(len(shapes), 400)
             for name, stroke in set(map(tuple, shapes)):
                 self.assertGreaterEqual(contrast(stroke, ground), 3, (name, stroke, ground))
 
-    def test_dark(self):
-        self.has_medium(scheme="dark")
-        body = self.page.sheet(EXAMPLE).one("body")
-        ground, letters = (sum(int(part) for part in re.findall(r"\d+", body.value_of_css_property(name))[:3])
-                           for name in ("background-color", "color"))
-        self.assertLess(ground, 120)
-        self.assertGreater(letters, 600)
-
-    def test_the_totals_stay_in_sight(self):
-        for sheet in (ZURICH.sheet, LARGEST.sheet()):
-            page = self.phone(sheet)
+    def test_a_phone(self):
+        """The totals stay in sight, a table that goes on says so, and the panel leaves half."""
+        self.assertEqual(self.page.show(EXAMPLE).text("#scrolls"), "")
+        self.has_screen(375, 667, 2, True)
+        for files in (ZURICH[:2], LARGEST.files()[:2]):
+            page = self.page.show(*files)
+            self.assertIn("The table goes on: scroll it.", page.text("#scrolls"))
             page.run("document.getElementById('seats-part').scrollIntoView({ block: 'end' })")
             for left, top in ((0, 0), (90, 60), (99999, 99999)):
-                page.run("document.getElementById('seats-part').scrollTo(arguments[0], arguments[1])", left, top)
                 box, right, foot, name = page.run("""
+                    document.getElementById('seats-part').scrollTo(...arguments);
                     return ['#seats-part', '#seats thead .sum', '#seats tfoot th', '#seats .corner'].map(
                       (css) => document.querySelector(css).getBoundingClientRect().toJSON());
-                """)
+                """, left, top)
                 self.assertLessEqual(right["right"], box["right"] + 1)
                 self.assertGreaterEqual(right["left"], box["left"])
-                self.assertLessEqual(foot["bottom"], box["bottom"] + 1)
-                self.assertLessEqual(foot["bottom"], 668)
+                self.assertLessEqual(foot["bottom"], min(box["bottom"] + 1, 668))
                 self.assertGreaterEqual(name["left"], box["left"] - 1)
-
-    def test_a_table_that_goes_on_says_so(self):
-        self.assertEqual(self.page.sheet(EXAMPLE).text("#scrolls"), "")
-        self.assertIn("The table goes on: scroll it.", self.phone(ZURICH.sheet).text("#scrolls"))
-
-    def test_tables_have_names(self):
-        page = self.page.sheet(ZURICH.sheet).choose(("two", ZURICH.sheet.replace("81", "82", 1)))
-        # What is far out of sight is not laid out, and has no name yet.
-        page.run("document.getElementById('changes').scrollIntoView()")
-        page.has_drawn()
-        for css, name in (("#parts", "Checks"), ("#changes table", "What changed"), ("#seats", "Seats by constituency and group")):
-            self.assertEqual(page.one(css).accessible_name, name)
-
-    def test_the_panel_leaves_half_of_a_phone(self):
-        for files in (ZURICH[:2], LARGEST.files()[:2]):
-            page = self.phone(*files)
             for css in ("#seats tbody th button", "#seats thead button", "#seats tbody td button"):
-                self.click(css)
-                self.assertLessEqual(page.run("return document.getElementById('detail').offsetHeight"), 667 / 2)
+                self.assertLessEqual(page.run("""
+                    document.querySelector(arguments[0]).click();
+                    return document.getElementById('detail').offsetHeight;
+                """, css), 667 / 2)
+
+    def test_nothing_is_wider_than_a_phone(self):
+        self.has_screen(360, 740, 2, True)
+        for files in ((ZURICH.sheet,), LARGEST.files()[:1], (WRONG_KEY,), (None, *OTHERS), (None, *ZURICH[1:]), (None, *LARGEST.files()[1:])):
+            for language in ("en", "de"):
+                self.page.speak(language)
+                self.assertLessEqual(self.page.show(*files).run("return document.documentElement.scrollWidth"), 360)
 
     def test_words_are_not_broken(self):
         """No part of a name stands on two lines where no hyphen or blank parts it."""
@@ -140,8 +119,9 @@ class Sight(Case):
         groups = ["Sozialdemokratische Partei", "Schweizerische Volkspartei", "FDP.Die Liberalen", "Grünliberale Partei",
                   "Eidgenössisch-Demokratische", "Alternative Liste"]
         sheet = model.made_up(2, 5, 6, 40, names=names, groups=groups).sheet()
-        for shown in (self.page.sheet, self.phone):
-            self.assertEqual(shown(sheet).run("""
+        for width in (1280, 375):
+            self.has_screen(width, 900, 1, False)
+            self.assertEqual(self.page.show(sheet).run("""
                 const found = [];
                 const names = '.legend .name bdi, #seats:not(.crowded) .name bdi, #seats tbody .name bdi';
                 for (const name of document.querySelectorAll(names)) {
@@ -162,11 +142,11 @@ class Sight(Case):
             """), [])
 
     def test_thousands_are_set_apart(self):
-        self.assertEqual(self.page.open().run(
+        self.assertEqual(self.page.run(
             "return ['999', '1000', '1234567.1234567', '28518 / (7242.666666 × 1.007187)', '10000/10', '3909..', '+30000'].map(grouped)"),
             ["999", "1,000", "1,234,567.1234567", "28,518 / (7,242.666666 × 1.007187)", "10,000/10", "3,909..", "+30,000"])
-        page = self.page.sheet(EXAMPLE.replace("provisional 9", "provisional 18446744073709551615").replace("Nord", "N 2027"))
-        self.assertIn("(18,446,744,073,709,551,615, it says)", page.text("#why"))
+        page = self.page.show(EXAMPLE.replace("provisional 9", "provisional 18446744073709551615").replace("Nord", "N 2027"))
+        self.assertIn("(18,446,744,073,709,551,615, it says)", " ".join(page.texts("#why p")))
         self.assertEqual(page.texts("#seats tbody th")[0], "N 2027")
 
     def readable(self, ground, *texts):
@@ -185,15 +165,15 @@ class Sight(Case):
         """In each colour, light and dark."""
         for scheme in ("dark", "light"):
             self.has_medium(scheme=scheme)
-            self.page.sheet(EXAMPLE, *OTHERS)
+            self.page.show(EXAMPLE, *OTHERS)
             for state in ("right", "wrong", "absent"):
                 self.page.proved(state)
                 self.readable("#bar", "#verdict", "#why p", "#kind")
                 self.readable("li", "#ticks p, #ticks .mark")
                 self.readable("body", "#election")
-            self.page.sheet(EXAMPLE).proved("alone")
+            self.page.show(EXAMPLE).proved("alone")
             self.readable("li", "#ticks .hint, #ticks .mark")
-            self.page.sheet("1 refused nogroup\n")
+            self.page.show("1 refused nogroup\n")
             self.readable("#bar", "#verdict", "#verdict .mark", "#why p", "#kind .kind")
-            self.page.sheet(changed(EXAMPLE, "voters 230 seats 5", "voters 230 seats 6"), EXAMPLE_SETUP)
+            self.page.show(changed(EXAMPLE, "voters 230 seats 5", "voters 230 seats 6"), EXAMPLE_SETUP)
             self.readable("body", ".legend .said.wrong")
