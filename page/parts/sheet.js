@@ -33,19 +33,25 @@ function decoded(bytes) {
   throw new Fault(line, new TextDecoder().decode(bytes.subarray(start, end < 0 ? bytes.length : end)), 'notText');
 }
 
-const NUMERAL = '(0|[1-9][0-9]{0,19})';
-const DIVISOR = '((?:0|[1-9][0-9]{0,19})\\.[0-9]{6})';
-const line = (text) => new RegExp(`^${text}$`, 'su');
+// How the words in braces are written, and read; all others are numbers. A word with a stroke may be a stroke alone.
+const NUMERAL = '0|[1-9][0-9]{0,19}';
+const WRITTEN = { desk: '[1-8]', kind: 'provisional|final', takesPart: 'yes|no', divisor: '(?:0|[1-9][0-9]{0,19})\\.[0-9]{6}', name: '.+' };
+const READ = {
+  kind: String, name: String, number: Number, constituency: Number, group: Number, takesPart: (word) => word === 'yes',
+  divisor: (word) => BigInt(word.replace('.', '')),
+};
+const formOf = (text) => new RegExp(`^${text.replace(/\{(\w+)(-?)\}/gu, (_, name, dash) => (
+  `(?<${name}>${dash && '-|'}${WRITTEN[name] ?? NUMERAL})`))}$`, 'su');
 const FORMS = {
-  head: line(`([1-8]) sheet (provisional|final) ${NUMERAL}`),
-  house: line(`house ${NUMERAL}`),
-  seatsKey: line(`seats key ${NUMERAL}/${NUMERAL}`),
-  upperKey: line(`upper key ${NUMERAL}/${NUMERAL}`),
-  quorum: line(`quorum canton ${NUMERAL}`),
-  constituency: line(`constituency ${NUMERAL} persons ${NUMERAL} seats ${NUMERAL} votes ${NUMERAL} divisor ${DIVISOR} (.+)`),
-  group: line(`group ${NUMERAL} quorum (yes|no) voters (-|${NUMERAL}) seats ${NUMERAL} divisor (-|${DIVISOR}) (.+)`),
-  list: line(`list ${NUMERAL} ${NUMERAL} votes ${NUMERAL} voters (-|${NUMERAL}) seats ${NUMERAL}`),
-  end: line('end'),
+  head: formOf('{desk} sheet {kind} {commands}'),
+  house: formOf('house {seats}'),
+  seatsKey: formOf('seats key {a}/{b}'),
+  upperKey: formOf('upper key {a}/{b}'),
+  quorum: formOf('quorum canton {perMille}'),
+  constituency: formOf('constituency {number} persons {persons} seats {seats} votes {votes} divisor {divisor} {name}'),
+  group: formOf('group {number} quorum {takesPart} voters {voters-} seats {seats} divisor {divisor-} {name}'),
+  list: formOf('list {constituency} {group} votes {votes} voters {voters-} seats {seats}'),
+  end: formOf('end'),
 };
 const SHOWN_FORMS = {
   head: 'D sheet provisional K', house: 'house H', seatsKey: 'seats key A/B', upperKey: 'upper key A/B',
@@ -97,7 +103,7 @@ class Lines {
 
   has(form) { return this.at < this.lines.length && FORMS[form].test(this.text); }
 
-  // The words of this line, which has to be of this form.
+  // What this line says, which has to be of this form: its words by their names, null for a stroke.
   take(form) {
     // A line that begins as another one is measured by that one's form.
     const wanted = { form: SHOWN_FORMS[['constituency', 'group', 'list'].find((word) => this.text.startsWith(`${word} `)) ?? form] };
@@ -108,43 +114,17 @@ class Lines {
     if (form === 'head' && FORMS.head.test(`1 ${this.text}`)) throw this.fault('noDesk', { line: named(`1 ${this.text}`) });
     if (!match) throw this.fault(this.text === 'end' ? 'early' : 'noForm', wanted);
     this.at += 1;
-    return { words: match.slice(1), line: this.at, text: match[0] };
+    const said = Object.entries(match.groups ?? {}).map(([name, word]) => (
+      [name, word === '-' && name !== 'name' ? null : (READ[name] ?? BigInt)(word)]));
+    return { ...Object.fromEntries(said), divisorText: match.groups?.divisor, line: this.at, text: match[0] };
   }
 }
 
-const millionths = (divisor) => BigInt(divisor.replace('.', ''));
-const unlessDash = (word, read) => (word === '-' ? null : read(word));
-
-function constituencyOf({ words: [number, persons, seats, votes, divisor, name], line, text }) {
-  return {
-    number: Number(number), persons: BigInt(persons), seats: BigInt(seats), votes: BigInt(votes),
-    divisor: millionths(divisor), divisorText: divisor, name, line, text,
-  };
-}
-
-function groupOf({ words: [number, quorum, voters, , seats, divisor, , name], line, text }) {
-  return {
-    number: Number(number), takesPart: quorum === 'yes', voters: unlessDash(voters, BigInt), seats: BigInt(seats),
-    divisor: unlessDash(divisor, millionths), divisorText: divisor, name, line, text,
-  };
-}
-
-function listOf({ words: [constituency, group, votes, voters, , seats], line, text }) {
-  return {
-    constituency: Number(constituency), group: Number(group), votes: BigInt(votes),
-    voters: unlessDash(voters, BigInt), seats: BigInt(seats), line, text,
-  };
-}
-
-function keyIn({ words: [a, b], line, text }) {
-  return { a: BigInt(a), b: BigInt(b), line, text };
-}
-
 // Lines of one form that are numbered 1, 2, ..; from 1 to 32 of them.
-function numbered(lines, form, read) {
+function numbered(lines, form) {
   const found = [];
   do {
-    const next = read(lines.take(form));
+    const next = lines.take(form);
     if (next.number !== found.length + 1 || next.number > 32) {
       throw new Fault(next.line, next.text, 'number', { number: found.length + 1 });
     }
@@ -159,7 +139,7 @@ function listsIn(lines, constituencies, groups) {
   const found = [];
   let before = 0;
   while (lines.has('list')) {
-    const next = listOf(lines.take('list'));
+    const next = lines.take('list');
     const place = next.constituency * 100 + next.group;
     if (next.constituency < 1 || next.constituency > constituencies.length) throw new Fault(next.line, next.text, 'noConstituency');
     if (next.group < 1 || next.group > groups.length) throw new Fault(next.line, next.text, 'noGroup');
@@ -176,19 +156,15 @@ function readSheet(text) {
   const lines = new Lines(text);
   const head = lines.take('head');
   const house = lines.take('house');
-  const seatsKey = keyIn(lines.take('seatsKey'));
-  const upperKey = keyIn(lines.take('upperKey'));
+  const seatsKey = lines.take('seatsKey');
+  const upperKey = lines.take('upperKey');
   const quorum = lines.has('quorum') ? lines.take('quorum') : null;
-  const constituencies = numbered(lines, 'constituency', constituencyOf);
-  const groups = numbered(lines, 'group', groupOf);
+  const constituencies = numbered(lines, 'constituency');
+  const groups = numbered(lines, 'group');
   const lists = listsIn(lines, constituencies, groups);
   lines.take(lists.length === 0 ? 'list' : 'end');
   if (lines.at < lines.lines.length || lines.rest !== '') throw lines.fault(lines.isBlank ? 'blank' : 'after');
-  return {
-    kind: head.words[1], commands: BigInt(head.words[2]), head,
-    house: { seats: BigInt(house.words[0]), line: house.line, text: house.text },
-    quorum: quorum && { perMille: BigInt(quorum.words[0]), line: quorum.line, text: quorum.text },
-    seatsKey, upperKey, constituencies, groups, lists, lines: lines.lines,
-    at: new Map(lists.map((list) => [`${list.constituency} ${list.group}`, list])),
-  };
+  const at = new Map(lists.map((list) => [`${list.constituency} ${list.group}`, list]));
+  const { kind, commands } = head;
+  return { kind, commands, head, house, quorum, seatsKey, upperKey, constituencies, groups, lists, lines: lines.lines, at };
 }

@@ -108,9 +108,8 @@ class Page:
         return self.driver.execute_script(script, *arguments)
 
     def wait(self, condition):
-        """Waits until this script, or this call, returns true."""
-        holds = condition if callable(condition) else lambda: self.run(condition)
-        WebDriverWait(self.driver, PATIENCE, poll_frequency=0.02).until(lambda driver: holds())
+        """Waits until this script returns true."""
+        WebDriverWait(self.driver, PATIENCE, poll_frequency=0.02).until(lambda driver: self.run(condition))
 
     def one(self, css):
         return self.driver.find_element(By.CSS_SELECTOR, css)
@@ -156,7 +155,3 @@ class Page:
 
     def press(self, *keys):
         webdriver.ActionChains(self.driver).send_keys(*keys).perform()
-
-    def complaints(self):
-        """What the browser complained about: scripts that failed, and what the content policy refused."""
-        return [entry["message"] for entry in self.driver.get_log("browser")]

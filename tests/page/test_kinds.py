@@ -6,9 +6,8 @@ from sheets import ZURICH
 
 DIVISOR = changed(EXAMPLE, "205.000000", "150.000000")
 NO_DIVISOR = changed(EXAMPLE, "seats 5 divisor 1.000000 A", "seats 5 divisor - A")
-ELEVEN, MORE = changed(EXAMPLE_SETUP, HOUSE := "house = 10", "house = 11"), changed(ROWS, VOTES := "1,1,1,525", "1,1,1,526")
-OF_DIVISOR, NO_CHANGE, NOR = "Wrong: a divisor; the seats are right", "No seat changes.", "Nor does it match the other files:"
-OTHER_SEATS = "other seats follow from the votes on the sheet: Nord, A 3, not 2."
+ELEVEN, MORE = changed(EXAMPLE_SETUP, "house = 10", "house = 11"), changed(ROWS, "1,1,1,525", "1,1,1,526")
+COPIED = EXAMPLE.removeprefix("1 ")
 
 
 def moved(*seats):
@@ -20,128 +19,89 @@ def moved(*seats):
     return sheet
 
 
-# Headings of sheets that are wrong themselves, what is said of each below it, and the files.
+OF_DIVISOR, GIVES, NO_CHANGE = "✗ Wrong: a divisor; the seats are right", "it would give these seats", "No seat changes."
+OTHER_SEATS, NOR = "other seats follow from the votes on the sheet: Nord, A 3, not 2.", "Nor does it match the other files:"
+OTHER_VOTES, OTHER_SETUP = "≠ Does not match the returns: other votes", "≠ Does not match the set-up"
+NO_SHEET = ("The seats are not checked, and nothing is said against",
+            "It finds no whole sheet in this file. “sheet wrong” in its last line")
+# Headings, what else is said, and what is not, and the files: of sheets that are wrong themselves, of those that do not match another file,
+# and of those that can't be read.
 KINDS = (
-    (OF_DIVISOR, ["The divisor of Nord is 150.000000 on the sheet; between 200 and 210 it would give these seats.", NO_CHANGE], DIVISOR, *OTHERS),
-    (OF_DIVISOR, ["The divisor of A is 1.500000 on the sheet; between "], changed(EXAMPLE, "1.000000 A", "1.500000 A"), *OTHERS),
-    # Of two that are wrong none is named.
-    (OF_DIVISOR, ["Line 11 of the sheet: Nord, A: 525 / (150", NO_CHANGE], changed(DIVISOR, "190.000000", "100.000000"), *OTHERS),
-    (OF_DIVISOR, [], NO_DIVISOR, *OTHERS),
-    (OF_DIVISOR, [], NO_DIVISOR.replace("divisor 1.000000", "divisor -"), *OTHERS),
-    (OF_DIVISOR, ["The divisor of Nord is 0.000000 on the sheet"], changed(EXAMPLE, "205.000000", "0.000000"), *OTHERS),
-    # What fails first is named.
-    ("Wrong: a number of voters; the seats are right", ["Line 11 of the sheet: Nord, A: 525 / 5, rounded, is 105 voters, and not 104", NO_CHANGE],
-     changed(DIVISOR, "525 voters 105", "525 voters 104"), *OTHERS),
-    ("Wrong: a key; the seats are right", ["Line 3 of the sheet: the key should be 10,000/10, and not 10,000/9", NO_CHANGE],
+    (OF_DIVISOR, [f"The divisor of Nord is 150.000000 on the sheet; between 200 and 210 {GIVES}.", NO_CHANGE, "✗ Both checks say: wrong They "
+     "are the proved check and this page’s own. By the latter: a divisor, not the seats.", "2 checks fail. No seat changes.",
+     "The parliament as this sheet has it"], [], DIVISOR, *OTHERS),
+    (OF_DIVISOR, ["The divisor of A is 1.500000 on the sheet; between "], [], changed(EXAMPLE, "1.000000 A", "1.500000 A"), *OTHERS),
+    (OF_DIVISOR, ["Line 11 of the sheet: Nord, A: 525 / (150", NO_CHANGE], [GIVES], changed(DIVISOR, "190.000000", "100.000000"), *OTHERS),
+    (OF_DIVISOR, [], [GIVES], NO_DIVISOR, *OTHERS),
+    (OF_DIVISOR, [], [GIVES], NO_DIVISOR.replace("divisor 1.000000", "divisor -"), *OTHERS),
+    (OF_DIVISOR, [GIVES], [], changed(EXAMPLE, "205.000000", "0.000000"), *OTHERS),
+    ("✗ Wrong: a number of voters; the seats are right", ["Line 11 of the sheet: Nord, A: 525 / 5, rounded, is 105 voters, and not 104",
+                                                          NO_CHANGE], [GIVES], changed(DIVISOR, "525 voters 105", "525 voters 104"), *OTHERS),
+    ("✗ Wrong: a key; the seats are right", ["Line 3 of the sheet: the key should be 10,000/10, and not 10,000/9", NO_CHANGE], [],
      changed(EXAMPLE, "10000/10", "10000/9"), *OTHERS),
-    ("Wrong: a sum of votes; the seats are right", ["Line 5 of the sheet: Nord: the votes of its lists make 1,000, and not 999", NO_CHANGE],
-     changed(EXAMPLE, "votes 1000", "votes 999"), *OTHERS),
-    ("Wrong: who takes part; the seats are right",
-     ["Line 10 of the sheet: C: by its votes this group takes part (quorum yes); the sheet says no", NO_CHANGE],
+    ("✗ Wrong: a sum of votes; the seats are right", ["Line 5 of the sheet: Nord: the votes of its lists make 1,000, and not 999", NO_CHANGE],
+     [], changed(EXAMPLE, "votes 1000", "votes 999"), *OTHERS),
+    ("✗ Wrong: who takes part; the seats are right", [
+        "Line 10 of the sheet: C: by its votes this group takes part (quorum yes); the sheet says no", NO_CHANGE], [],
      changed(EXAMPLE, "quorum yes voters 70", "quorum no voters 70"), *OTHERS),
-    ("Wrong: 1 seat", ["Seats change.", "other seats follow from the returns: Nord, A 3, not 2."], WRONG, *OTHERS),
-    ("Wrong: 1 seat", [OTHER_SEATS], WRONG),
-    ("Wrong: 3 seats", ["Nord, A 3, not 2; Nord, B 1, not 2; Mitte, A 1, not 2; 2 more."],
+    ("✗ Wrong: 1 seat", ["Seats change.", "other seats follow from the returns: Nord, A 3, not 2.",
+                         "The parliament as this sheet has it: with wrong seats"], [NOR], WRONG, *OTHERS),
+    ("✗ Wrong: 1 seat", [OTHER_SEATS], [NOR], WRONG),
+    ("✗ Wrong: 3 seats", ["Nord, A 3, not 2; Nord, B 1, not 2; Mitte, A 1, not 2; 2 more."], [],
      moved(("1 1", 2), ("1 2", 2), ("2 1", 2), ("2 2", 1), ("3 1", 0)), *OTHERS),
-    ("Wrong: 1 seat", ["In Nord the sheet gives B 1 seat that belongs to A."], moved(("1 1", 2), ("1 2", 2)), *OTHERS),
-    ("Wrong: a total of seats", ["A in total 5, not 6"], changed(EXAMPLE, "voters 230 seats 5", "voters 230 seats 6"), *OTHERS),
+    ("✗ Wrong: 1 seat", ["In Nord the sheet gives B 1 seat that belongs to A."], [], moved(("1 1", 2), ("1 2", 2)), *OTHERS),
+    ("✗ Wrong: a total of seats", ["A in total 5, not 6", "1 A 6 right: 5 2 B"], [],
+     changed(EXAMPLE, "voters 230 seats 5", "voters 230 seats 6"), *OTHERS),
     # Beside other files that do not match, the seats that are said to follow are those of its own votes.
-    *(("Wrong: 1 seat", ["Seats change.", OTHER_SEATS, NOR], WRONG, *files) for files in ((ELEVEN, ROWS), (EXAMPLE_SETUP, MORE), (ELEVEN, MORE))),
-    (OF_DIVISOR, ["The divisor of Nord is 150", NO_CHANGE, NOR], DIVISOR, ELEVEN, ROWS),
-    ("Wrong: a sum of votes", ["Whether seats change is not known"], changed(EXAMPLE, "list 1 3 votes 175 voters 35 seats 1\n", ""), EXAMPLE_SETUP),
-    ("Wrong: this is not a sheet", ["Line 1 of the sheet: it does not belong here"], "hello\n"))
+    *(("✗ Wrong: 1 seat", ["Seats change.", OTHER_SEATS, NOR], [], WRONG, *it) for it in ((ELEVEN, ROWS), (EXAMPLE_SETUP, MORE), (ELEVEN, MORE))),
+    (OF_DIVISOR, [NO_CHANGE, NOR], [], DIVISOR, ELEVEN, ROWS),
+    ("✗ Wrong: a sum of votes", ["Whether seats change is not known"], [],
+     changed(EXAMPLE, "list 1 3 votes 175 voters 35 seats 1\n", ""), EXAMPLE_SETUP),
+    # The sheet is right by its own votes, and none of what the rows would change is said to be so.
+    *((f"{OTHER_VOTES}, the same seats", [
+        f"Line 11 of the sheet: Nord, A: the returns make {new} votes, the sheet says 525", "By the returns the seats would be the same.",
+        f"By its own votes the sheet is right. {said}", "≠ Both checks say: no match"], [], EXAMPLE, EXAMPLE_SETUP,
+       changed(ROWS, "1,1,1,525", f"1,1,1,{new}")) for new, said in (
+           ("526", "The returns have more votes: they may be newer than this sheet."),
+           ("524", "The returns have fewer votes: they may be older than this sheet."))),
+    (f"{OTHER_VOTES} and seats", [
+        "more votes in some lists and fewer in others", "Nord, A: the returns make 325 votes", "Nord, B: the returns make 500 votes",
+        "By the returns other seats would follow.", "≠ Returns opened, but they have other votes", "1 A 5 by the returns: 4",
+        "The parliament as this sheet has it: the files do not match", "It says that the sheet does not match the other files"],
+     ["Seats change", " right: "], EXAMPLE, EXAMPLE_SETUP, changed(changed(ROWS, "1,1,1,525", "1,1,1,325"), "1,2,1,300", "1,2,1,500")),
+    (OTHER_SETUP, ["Line 2 of the sheet: the set-up says 11 seats in all, the sheet 10", "By this set-up other seats would follow.",
+                   "By its own numbers the sheet is right. The set-up may be that of another election", "with 11 seats: ",
+                   "≠ Set-up opened, but it does not match"], [], EXAMPLE, ELEVEN, ROWS),
+    (OTHER_SETUP, ["Line 5 of the sheet: Nord: the set-up says Norden, the sheet Nord", "By this set-up the seats would be the same."], [],
+     EXAMPLE, changed(EXAMPLE_SETUP, '"Nord"', '"Norden"'), ROWS),
+    *(("✗ Wrong: this is not a sheet", ["Line 1 of the sheet: it does not belong here"], [], it, *OTHERS) for it in (
+        "hello\n", COPIED.replace("provisional", "official"), f"9 {COPIED}", f" {COPIED}")),
+    *(("! This file is damaged: get it again", ["it ends in a carriage return", *NO_SHEET], ["Both checks"], it.replace("\n", "\r\n"), *OTHERS)
+      for it in (EXAMPLE, COPIED)),
+    ("! This file is cut off: get it again", ["the sheet is cut off within", *NO_SHEET], ["Both checks"], EXAMPLE[:300], *OTHERS))
 
 
 class Kinds(Case):
-    def says(self, heading, sentences, *files, state="wrong"):
-        sign = {"wrong": "✗", "mismatch": "≠", "damaged": "!"}[state]
-        page = self.page.show(*files).proved("wrong")
-        self.bar_is(state, f"{sign} {heading}")
-        for one in sentences:
-            self.assertIn(one, page.text("#why"))
-        return page
-
-    def test_wrong_sheets(self):
-        for heading, sentences, *files in KINDS:
-            with self.subTest(heading, sentences=sentences):
-                why = " ".join(self.says(heading, sentences, *files).texts("#why p"))
-                self.assertEqual("would give these seats" in why, "The divisor of " in "".join(sentences))
-                self.assertEqual(self.page.texts("#why .caveat"), [])
-
-    def test_a_divisor(self):
-        """The seats are right, and the table's panel says so too."""
-        page = self.says(OF_DIVISOR, [NO_CHANGE], DIVISOR, *OTHERS)
-        self.assertEqual(page.text("#parliament h2"), "The parliament as this sheet has it")
-        self.assertIn("✗ Both checks say: wrong They are the proved check and this page’s own. By the latter: a divisor, not the seats.",
-                      page.text("#ticks"))
-        self.assertIn("2 checks fail. No seat changes.", page.text("#count"))
-        page.click("#seats tbody td button.bad")
-        self.assertIn("Right by this page’s count 3 seats", page.text("#detail"))
-
-    def test_seats(self):
-        self.assertEqual(self.page.show(WRONG, *OTHERS).text("#parliament h2"), "The parliament as this sheet has it: with wrong seats")
-        self.page.show(changed(EXAMPLE, "voters 230 seats 5", "voters 230 seats 6"), *OTHERS)
-        self.assertEqual(self.page.text(".legend li"), "1 A 6 right: 5")
-
-    def test_votes_of_other_rows(self):
-        """The sheet is right by its own votes, and none of what the rows would change is said to be so."""
-        for new, said in (("526", "The returns have more votes: they may be newer than this sheet."),
-                          ("524", "The returns have fewer votes: they may be older than this sheet.")):
-            page = self.says("Does not match the returns: other votes, the same seats",
-                             [f"Line 11 of the sheet: Nord, A: the returns make {new} votes, the sheet says 525",
-                              "By the returns the seats would be the same."],
-                             EXAMPLE, EXAMPLE_SETUP, changed(ROWS, VOTES, f"1,1,1,{new}"), state="mismatch")
-            self.assertIn(f"By its own votes the sheet is right. {said}", page.text("#why .caveat"))
-            self.assertIn("≠ Both checks say: no match", page.text("#ticks"))
-        both = changed(changed(ROWS, VOTES, "1,1,1,325"), "1,2,1,300", "1,2,1,500")
-        page = self.says("Does not match the returns: other votes and seats",
-                         ["more votes in some lists and fewer in others", "Nord, A: the returns make 325 votes",
-                          "Nord, B: the returns make 500 votes", "By the returns other seats would follow."],
-                         EXAMPLE, EXAMPLE_SETUP, both, state="mismatch")
-        self.assertIn("≠ Returns opened, but they have other votes", page.text("#ticks"))
-        self.assertEqual(page.text("#parliament h2"), "The parliament as this sheet has it: the files do not match")
-        self.assertNotIn("Seats change", page.text("body"))
-        self.assertNotIn("right: ", page.text(".legend"))
-        self.assertIn("by the returns: ", page.text(".legend"))
-        self.assertTrue(page.text("#proved p").startswith("It says that the sheet does not match the other files"))
-
-    def test_another_set_up(self):
-        page = self.says("Does not match the set-up", ["Line 2 of the sheet: the set-up says 11 seats in all, the sheet 10",
-                                                       "By this set-up other seats would follow."], EXAMPLE, ELEVEN, ROWS, state="mismatch")
-        self.assertIn("By its own numbers the sheet is right. The set-up may be that of another election", page.text("#why .caveat"))
-        self.assertIn("≠ Set-up opened, but it does not match", page.text("#ticks"))
-        self.assertIn("with 11 seats: ", page.text(".legend"))
-        self.says("Does not match the set-up", ["Line 5 of the sheet: Nord: the set-up says Norden, the sheet Nord",
-                                                "By this set-up the seats would be the same."],
-                  EXAMPLE, changed(EXAMPLE_SETUP, '"Nord"', '"Norden"'), ROWS, state="mismatch")
-
-    def test_what_can_not_be_read(self):
-        for heading, said, sheet in (("damaged", "it ends in a carriage return", EXAMPLE.replace("\n", "\r\n")),
-                                     ("cut off", "the sheet is cut off within", EXAMPLE[:300])):
-            page = self.says(f"This file is {heading}: get it again", [said], sheet, *OTHERS, state="damaged")
-            self.assertTrue(page.text("#why .caveat").startswith("The seats are not checked, and nothing is said against"))
-            self.assertEqual(page.texts("#ticks li"), [])
-            self.assertTrue(page.text("#proved p").startswith("It finds no whole sheet in this file. “sheet wrong” in its last line"))
+    def test_each_kind(self):
+        for heading, texts, others, *files in KINDS:
+            with self.subTest(heading, texts=texts):
+                page = self.page.show(*files).proved("wrong")
+                self.bar_is({"✗": "wrong", "≠": "mismatch", "!": "damaged"}[heading[0]], heading)
+                body = page.text("body")
+                for text in texts:
+                    self.assertIn(text, body)
+                for text in others:
+                    self.assertNotIn(text, body)
+        self.page.show(DIVISOR, *OTHERS).click("#seats tbody td button.bad")
+        self.assertIn("Right by this page’s count 3 seats", self.page.text("#detail"))
 
     def test_a_sheet_that_was_copied_from_a_desk(self):
         """Its first line has no desk: whatever the file is called, the page says what is missing, and what to do."""
-        copied = EXAMPLE.removeprefix("1 ")
         for name in ("sheet", "sheet.csv", "sheet.toml"):
-            page = self.page.open().choose((name, copied), ("setup.toml", EXAMPLE_SETUP), ("held.csv", ROWS))
-            for language, heading, said in (
-                    ("en", "! Copied from a desk: the desk’s number is missing",
-                     "Line 1 of the sheet: the desk’s number is missing; put it and a space before this line (for desk 1: “1 sheet "
-                     "provisional 9”)"),
-                    ("de", "! Von einem Pult kopiert: Die Nummer des Pults fehlt",
-                     "Zeile 1 des Resultatblatts: die Nummer des Pults fehlt; setzen Sie sie und ein Leerzeichen vor diese Zeile (für Pult "
-                     "1: «1 sheet provisional 9»)")):
-                page.speak(language)
-                self.bar_is("damaged", heading)
-                self.assertIn(said, page.text("#why"))
-        page.speak("en")
-        self.says("This file is damaged: get it again", ["it ends in a carriage return"], copied.replace("\n", "\r\n"), state="damaged")
-        for other in (copied.replace("provisional", "official"), f"9 {copied}", f" {copied}"):
-            self.says("Wrong: this is not a sheet", ["Line 1 of the sheet: it does not belong here"], other, *OTHERS)
+            page = self.page.open().choose((name, COPIED), ("setup.toml", EXAMPLE_SETUP), ("held.csv", ROWS))
+            self.bar_is("damaged", "! Copied from a desk: the desk’s number is missing")
+            self.assertIn("Line 1 of the sheet: the desk’s number is missing; put it and a space before this line (for desk 1: “1 sheet "
+                          "provisional 9”)", page.text("#why"))
 
     def test_at_a_tie_no_seats_are_said_to_follow(self):
         tied = "1 sheet final 1\nhouse 1\nseats key 2000/2\nupper key 20/1\n" \
@@ -169,11 +129,12 @@ class Kinds(Case):
     def test_one_and_more(self):
         page = self.page.show("hello\n", EXAMPLE_SETUP)
         self.assertIn(" 1 line Remove", page.text(".had .sheet"))
-        one, eine = ("1 line, 1 check holds, Returns opened: the only one", "1 Zeile, 1 Prüfung bestanden, Meldungen geöffnet: die einzige")
+        one = ["1 line, 1 check holds, Returns opened: the only one", "1 Zeile, 1 Prüfung bestanden, Meldungen geöffnet: die einzige"]
+        two = ["2 lines, 2 checks hold, Returns opened: all 2", "2 Zeilen, 2 Prüfungen bestanden, Meldungen geöffnet: alle 2"]
         self.assertEqual(page.run("""
-            return [1, 2, 1n].flatMap((count) => LANGUAGES.map((one) => { language = one; return [say('lines', { count }),
+            return [1, 2, 1n].map((count) => LANGUAGES.map((one) => { language = one; return [say('lines', { count }),
               say('holds', { count }), say('tickRows', { possible: count })].join(', '); }));
-        """), [one, eine, "2 lines, 2 checks hold, Returns opened: all 2", "2 Zeilen, 2 Prüfungen bestanden, Meldungen geöffnet: alle 2", one, eine])
+        """), [one, two, one])
 
     def test_the_first_screen(self):
         """Verdict, election, ticks and parliament are seen at 1280 x 900 without scrolling."""
@@ -182,14 +143,13 @@ class Kinds(Case):
                                ("right", *ZURICH), ("alone", ZURICH.sheet), ("wrong", WRONG_KEY, *ZURICH[1:])):
             for language in ("en", "de"):
                 self.page.speak(language)
-                ends = self.page.show(*files).proved(proved).run("""
-                    return ['#verdict', '#title', '#election', '#ticks', '.arc', '.legend'].map((css) => {
-                      const { top, bottom } = document.querySelector(css).getBoundingClientRect();
-                      return [css, top, bottom];
-                    });
-                """)
-                for css, top, bottom in ends:
-                    with self.subTest(css, language=language, files=len(files), sheet=files[0][:20]):
-                        self.assertGreaterEqual(top, 0)
-                        self.assertLessEqual(bottom, 900)
-                self.assertEqual(len(self.page.texts("#ticks li")), 3)
+                with self.subTest(language=language, files=len(files), sheet=files[0][:20]):
+                    ends = self.page.show(*files).proved(proved).run("""
+                        return [...document.querySelectorAll('#verdict, #title, #election, #ticks, .arc, .legend')].flatMap((it) => {
+                          const { top, bottom } = it.getBoundingClientRect();
+                          return [top, bottom];
+                        });
+                    """)
+                    self.assertEqual((len(ends), len(self.page.texts("#ticks li"))), (12, 3))
+                    self.assertGreaterEqual(min(ends), 0)
+                    self.assertLessEqual(max(ends), 900)

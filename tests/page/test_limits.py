@@ -8,8 +8,7 @@ LONGEST_SHEET, LONGEST_ROWS = 280_064, 483_488
 # So many milliseconds: what is opened is read, checked, shown and laid out in fewer. That is ten times what the slowest takes, for
 # machines that are busy; what goes through a text again and again takes more. It is meant for a machine that runs a loop in YARDSTICK
 # milliseconds: where the loop takes longer, so may the page.
-MOST, YARDSTICK = 5000, 60
-TIMES = 3
+MOST, YARDSTICK, TIMES = 5000, 60, 3
 
 HOUSE, ROW, HEAD = "house = 10", "1,2,1,300", "municipality,list,number,votes\n"
 BLANK, COMMENT, RETURN, NO_ROW = ("not understood here", "its comment has a control character", "a carriage return (CR)",
@@ -106,76 +105,55 @@ class Limits(Case):
         self.assertEqual(sums, [hashlib.sha256(bytes(i % 251 for i in range(length))).hexdigest() for length in lengths])
 
 
+def without_divisors():
+    """The largest sheet with votes along a diagonal alone, for which there are no divisors, though none is soon seen to be missing."""
+    numbers = range(1, 33)
+    lines = ["1 sheet final 1", "house 400", "seats key 1/1", "upper key 1/1"]
+    lines += [f"constituency {d} persons {1000 + 37 * d} seats 12 votes 1 divisor 1.000000 D{d}" for d in numbers]
+    lines += [f"group {g} quorum yes voters 1 seats 12 divisor 1.000000 G{g}" for g in numbers]
+    lines += [f"list {d} {g} votes {1000 + 7 * d + g if d - g in (0, 1) else 0} voters 1 seats 1" for d in numbers for g in numbers]
+    return "\n".join(lines + ["end"]) + "\n"
+
+
 class Hostile(Case):
     """Each takes a time in the order of its length: less than a second, where the machine is free."""
 
-    def are_quick(self, *cases):
-        """The files of each case, a title and (name, text) each, take little time: the first that is below the limit, or the shortest of
-        some times."""
-        for title, *files in cases:
-            with self.subTest(title):
-                self.assertLess(self.page.run("""
-                    const [named, limit, yardstick, times] = arguments;
-                    const contents = named.map(([name, text]) => {
-                      const bytes = new TextEncoder().encode(text);
-                      if (name === 'no text') bytes[bytes.length - 1] = 255;
-                      return [name, bytes];
-                    });
-                    const timed = (work) => {
-                      const begun = performance.now();
-                      work();
-                      return performance.now() - begun;
-                    };
-                    const loop = () => { for (let [i, sum] = [0n, 0n]; i < 3000000n; i += 1n) sum = (sum * 31n + i) % 1000003n; };
-                    let shortest = Infinity;
-                    for (let i = 0; i < times && shortest >= limit; i += 1) {
-                      Object.assign(files, { sheet: null, before: null, setup: null, held: null });
-                      const whole = timed(() => {
-                        takeFiles(contents.map(([name, bytes]) => opened(name, bytes.subarray(0, MOST_READ))));
-                        document.body.getBoundingClientRect();
-                      });
-                      shortest = Math.min(shortest, whole < limit ? whole : whole / Math.max(1, timed(loop) / yardstick));
-                    }
-                    return shortest;
-                """, files, MOST, YARDSTICK, TIMES), MOST)
+    def is_quick(self, *given):
+        """These files, (name, content) each, take little time: the first that is below the limit, or the shortest of some times."""
+        self.assertLess(self.page.run("""
+            const [given, limit, yardstick, times] = arguments;
+            const bytes = (it) => (typeof it === 'string' ? new TextEncoder().encode(it) : Uint8Array.from(it));
+            const contents = given.map(([name, it]) => [name, bytes(it).subarray(0, MOST_READ)]);
+            const timed = (work) => { const begun = performance.now(); work(); return performance.now() - begun; };
+            const loop = () => { for (let [i, sum] = [0n, 0n]; i < 3000000n; i += 1n) sum = (sum * 31n + i) % 1000003n; };
+            let shortest = Infinity;
+            for (let i = 0; i < times && shortest >= limit; i += 1) {
+              Object.assign(files, { sheet: null, before: null, setup: null, held: null });
+              const whole = timed(() => { takeFiles(contents.map((it) => opened(...it))); document.body.getBoundingClientRect(); });
+              shortest = Math.min(shortest, whole < limit ? whole : whole / Math.max(1, timed(loop) / yardstick));
+            }
+            return shortest;
+        """, given, MOST, YARDSTICK, TIMES), MOST)
 
     def test_sheets(self):
+        """Also one of bytes that are no text at its end, the largest with each line wrong, and two of them with each list other."""
+        for text in (*("\n" * count for count in (60_000, 120_000, 240_000, MIB)), " \n" * 30_000,
+                     *(changed(EXAMPLE, "Nord", name) for name in ("x" * 3_900_000, "x" * 279_000, " " * 279_000, "\u202e" * 90_000)),
+                     "1 sheet final " + "9" * 280_000 + "\n", without_divisors(), [*b"\n" * 200_000, 255]):
+            with self.subTest(text[:400]):
+                self.is_quick(("sheet", text))
         largest, setup, held = LARGEST.files()
         wrong = largest.replace(" seats 1\n", " seats 399\n").replace(" votes ", " votes 9")
-        self.are_quick(*((title, ("sheet", text)) for title, text in (
-            ("60 kB of line ends", "\n" * 60_000), ("120 kB of line ends", "\n" * 120_000), ("240 kB of line ends", "\n" * 240_000),
-            ("line ends as long as a set-up", "\n" * MIB), ("60 kB of blanks and line ends", " \n" * 30_000),
-            ("a name of 3.9 MB", changed(EXAMPLE, "Nord", "x" * 3_900_000)),
-            ("a name as long as a sheet", changed(EXAMPLE, "Nord", "x" * (LONGEST_SHEET - len(EXAMPLE)))),
-            ("a name of blanks", changed(EXAMPLE, "Nord", " " * (LONGEST_SHEET - len(EXAMPLE)))),
-            ("a name that turns round", changed(EXAMPLE, "Nord", "\u202e" * 90_000)),
-            ("a number as long as a sheet", "1 sheet final " + "9" * (LONGEST_SHEET - 20) + "\n"),
-            ("seats that are looked for in vain", self.without_divisors()))),
-            ("a sheet with bytes that are no text at its end", ("no text", "\n" * 200_000)),
-            ("the largest sheet, with each line wrong", ("sheet", wrong), ("setup.toml", setup), ("held.csv", held)),
-            ("two of the largest sheets, with each list other", ("sheet", largest), ("another", wrong)))
+        self.is_quick(("sheet", wrong), ("setup.toml", setup), ("held.csv", held))
+        self.is_quick(("sheet", largest), ("another", wrong))
 
-    @staticmethod
-    def without_divisors():
-        """The largest sheet with votes along a diagonal alone, for which there are no divisors, though none is soon seen to be missing."""
-        numbers = range(1, 33)
-        lines = ["1 sheet final 1", "house 400", "seats key 1/1", "upper key 1/1"]
-        lines += [f"constituency {d} persons {1000 + 37 * d} seats 12 votes 1 divisor 1.000000 D{d}" for d in numbers]
-        lines += [f"group {g} quorum yes voters 1 seats 12 divisor 1.000000 G{g}" for g in numbers]
-        lines += [f"list {d} {g} votes {1000 + 7 * d + g if d - g in (0, 1) else 0} voters 1 seats 1" for d in numbers for g in numbers]
-        return "\n".join(lines + ["end"]) + "\n"
-
-    def test_set_ups(self):
-        self.are_quick(*((f"a set-up: {title}", ("sheet", EXAMPLE), ("setup.toml", text)) for title, text in (
-            ("a line with 60,000 blanks", "house = 10" + " " * 60_000 + "x\n"), ("a line of blanks", " " * MIB),
-            ("blanks before a key", "house" + " " * (MIB - 20) + "= 1"), ("line ends", "\n" * MIB),
-            ("an array of blanks", "stands = [1" + " " * 500_000 + "," + " " * 500_000 + "x]"),
-            ("an array of numbers", "[[group]]\nstands = [1" + ",1" * 500_000 + "]\n"),
-            ("a text without an end", 'name = "' + "x" * (MIB - 20)), ("escapes", 'name = "' + "\\\\" * 500_000),
-            ("a long key", "x" * (MIB - 10) + " = 1"), ("a long comment", "#" * MIB),
-            ("tables", "[[group]]\n" * 100_000), ("brackets", "[" * MIB), ("carriage returns", "\r" * MIB))))
-
-    def test_rows(self):
-        self.are_quick(*((f"rows: {title}", ("sheet", EXAMPLE), ("setup.toml", EXAMPLE_SETUP), ("held.csv", HEAD + text)) for title, text in (
-            ("line ends", "\n" * (LONGEST_ROWS - 40)), ("commas", "," * (LONGEST_ROWS - 40)), ("digits", "1" * (LONGEST_ROWS - 40)),
-            ("3.9 MB", "1,1,1,1\n" * 487_500))))
+    def test_set_ups_and_rows(self):
+        for text in ("house = 10" + " " * 60_000 + "x\n", " " * MIB, "house" + " " * 1_048_000 + "= 1", "\n" * MIB,
+                     "stands = [1" + " " * 500_000 + "," + " " * 500_000 + "x]", "[[group]]\nstands = [1" + ",1" * 500_000 + "]\n",
+                     'name = "' + "x" * 1_048_000, 'name = "' + "\\\\" * 500_000, "x" * 1_048_000 + " = 1", "#" * MIB,
+                     "[[group]]\n" * 100_000, "[" * MIB, "\r" * MIB):
+            with self.subTest(text[:40], end=text[-40:]):
+                self.is_quick(("sheet", EXAMPLE), ("setup.toml", text))
+        for text in ("\n" * 483_000, "," * 483_000, "1" * 483_000, "1,1,1,1\n" * 487_500):
+            with self.subTest(text[:40]):
+                self.is_quick(("sheet", EXAMPLE), ("setup.toml", EXAMPLE_SETUP), ("held.csv", HEAD + text))

@@ -7,9 +7,15 @@ from selenium.webdriver.common.keys import Keys
 from case import EXAMPLE, EXAMPLE_SETUP, HOSTILE, LARGEST, OTHER_WORDS, ROWS, WRONG, Case, changed
 from sheets import ZURICH
 
+
+
 class Use(Case):
+    def complaints(self):
+        """What the browser complained about: scripts that failed, and what the content policy refused."""
+        return [entry["message"] for entry in self.driver.get_log("browser")]
+
     def test_hostile_names_are_text(self):
-        self.page.complaints()
+        self.complaints()
         page = self.holds(changed(EXAMPLE, "1.000000 A", f"1.000000 {HOSTILE}").replace("Nord", "<b>N</b>"))
         for css in (".legend", "#seats thead"):
             self.assertIn(HOSTILE, page.text(css))
@@ -23,33 +29,30 @@ class Use(Case):
         for css in ("#held-so-far", "#votes-so-far"):
             self.assertIn(HOSTILE, page.text(css))
         self.assertEqual(page.all("img, [onerror]"), [])
-        self.assertEqual(page.complaints(), [])
+        self.assertEqual(self.complaints(), [])
 
     def test_the_policy_stops_markup(self):
         """Were a name ever inserted as markup, nothing would run or be fetched."""
-        page = self.page
-        page.complaints()
         markup = "<img src=https://example.org/x onerror='document.title = 1'><div onclick='document.title = 2' id=d>x</div>"
-        page.run("document.body.insertAdjacentHTML('beforeend', arguments[0]); document.getElementById('d').click()", markup)
-        said = []
-
-        def is_decided():
-            said.extend(text for text in page.complaints() if "Content Security Policy" in text)
-            return len(said) >= 2 or page.driver.title in ("1", "2")
-        page.wait(is_decided)
-        self.assertNotIn(page.driver.title, ("1", "2"))
-        self.assertGreaterEqual(len(said), 2)
+        self.page.run("""
+            window.refused = 0;
+            document.addEventListener('securitypolicyviolation', () => { window.refused += 1; });
+            document.body.insertAdjacentHTML('beforeend', arguments[0]);
+            document.getElementById('d').click();
+        """, markup)
+        self.page.wait("return window.refused >= 2 || ['1', '2'].includes(document.title)")
+        self.assertNotIn(self.driver.title, ("1", "2"))
 
     def test_no_request_is_made(self):
         """Beside that for the page, and for the worker's text, which comes from the page itself."""
-        self.page.complaints(), self.driver.get_log("performance")
+        self.complaints(), self.driver.get_log("performance")
         page = self.page.sheet(*ZURICH)
         page.click("#seats tbody td button")
         page.speak("de")
         messages = [json.loads(entry["message"])["message"] for entry in self.driver.get_log("performance")]
         asked = {it["params"]["request"]["url"] for it in messages if it["method"] == "Network.requestWillBeSent"}
         self.assertEqual({it for it in asked if not it.startswith("blob:")}, {page.path.as_uri()})
-        self.assertEqual(page.complaints(), [])
+        self.assertEqual(self.complaints(), [])
 
     def focus(self, attribute):
         """Of the element that has the focus; without the characters that isolate names."""
@@ -138,11 +141,14 @@ class Use(Case):
         page = self.page.choose(("one", EXAMPLE)).choose(("two", changed(EXAMPLE, "provisional 9", "provisional 10")))
         for part, scope in (("thead", "col"), ("tbody", "row")):
             self.assertEqual({head.get_attribute("scope") for head in page.all(f"#seats {part} th")}, {scope})
-        # What is far out of sight is not laid out, and has no name yet.
         for css, name in (("#seats", "Seats by constituency and group"), ("#pick", "Choose files"), ("#parts", "Checks"),
                           ("#changes table", "What changed"), (".arc", "The parliament: 10 seats, from left to right by group")):
-            page.run("document.querySelector(arguments[0]).scrollIntoView()", css)
-            page.wait(lambda: page.one(css).accessible_name)
+            # What is far out of sight is not drawn, and has no name yet.
+            self.driver.execute_async_script("""
+                document.querySelector(arguments[0]).scrollIntoView();
+                const draw = (times) => (times > 0 ? requestAnimationFrame(() => draw(times - 1)) : arguments[1]());
+                draw(3);
+            """, css)
             self.assertEqual(page.one(css).accessible_name, name)
         self.assertEqual((page.one("#seats").aria_role, page.one("#verdict").aria_role), ("table", "status"))
 
