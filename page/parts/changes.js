@@ -57,10 +57,9 @@ function changes({ sheet, before, beforeParts }) {
     const text = lines.length > 0 ? say('onlyLines', { lines: lines.join(', ') }) : say('nothingChanged');
     return make('section', { id: 'changes' }, heading, make('p', {}, text));
   }
-  return make('section', { id: 'changes' }, heading, other, make('div', { class: 'scroll' }, make('table', {
-    'aria-labelledby': 'changes-title' },
-    make('thead', {}, make('tr', {}, ['what', 'was', 'now', 'difference'].map((key) => make('th', { scope: 'col' }, say(key))))),
-    make('tbody', {}, found.map((one) => make('tr', {},
-      make('th', { scope: 'row' }, one.what), cell(one.was), cell(one.now),
-      make('td', {}, one.difference === null ? '' : signed(one.difference))))))));
+  const rows = found.map((one) => make('tr', {}, make('th', { scope: 'row' }, one.what), cell(one.was), cell(one.now),
+    make('td', {}, one.difference === null ? '' : signed(one.difference))));
+  const heads = ['what', 'was', 'now', 'difference'].map((key) => say(key));
+  return make('section', { id: 'changes' }, heading, other,
+    make('div', { class: 'scroll' }, tableOf({ 'aria-labelledby': 'changes-title' }, heads, rows)));
 }

@@ -30,18 +30,17 @@ function takesPart(sheet, group) {
     || (sheet.quorum !== null && reachesCanton(sum(lists.map(({ votes }) => votes)), allVotes(sheet), sheet.quorum.perMille));
 }
 
-// The divisors of a list's quotient, multiplied, and its votes, in millionths of millionths.
 const MILLION = 1000000n;
 // The limits of divisors, in millionths.
 const MOST_OF_CONSTITUENCY = 10n ** 18n;
 const MOST_OF_GROUP = 10n ** 12n;
+// The divisors of a list's quotient, multiplied, and its votes, in millionths of millionths.
 /** @type {(sheet: any, list: any) => any} */
 const unitOf = (sheet, list) => constituencyFor(sheet, list).divisor * groupFor(sheet, list).divisor;
 /** @type {(list: any) => any} */
 const twiceVotes = (list) => 2n * list.votes * MILLION * MILLION;
 
-function formPart(sheet, setup) {
-  const part = new Part('form');
+function formPart(part, sheet, setup) {
   part.expect(sheet.commands < 2n ** 64n, sheet.head, 'manyCommands');
   part.expect(sheet.house.seats >= 1n && sheet.house.seats <= 400n, sheet.house, 'range', { least: 1, most: 400 });
   if (sheet.quorum) {
@@ -59,7 +58,6 @@ function formPart(sheet, setup) {
   for (const group of sheet.groups) part.expect(listsOf(sheet, group).length > 0, group, 'noLists');
   if (setup) sameSetup(part, sheet, setup);
   else part.left.push('leftForm');
-  return part;
 }
 
 // The sheet is one of this set-up: its house, quorum and names, and a line for each list that stands.
@@ -93,23 +91,18 @@ function sameSetup(part, sheet, setup) {
   }
 }
 
-function votesPart(sheet, setup, held) {
-  const part = new Part('votes');
+function votesPart(part, sheet, setup, held) {
   for (const constituency of sheet.constituencies) {
     const votes = sum(listsWithin(sheet, constituency).map((list) => list.votes));
     part.expect(votes === constituency.votes, constituency, 'votesSum', { should: votes, is: constituency.votes });
   }
   const most = 10n ** 14n;
   part.expect(allVotes(sheet) <= most, sheet.constituencies[sheet.constituencies.length - 1], 'allVotes', { most, is: allVotes(sheet) });
-  if (!held) {
-    part.left.push(setup ? 'leftVotes' : 'leftVotesSetup');
-    return part;
-  }
-  for (const list of sheet.lists) {
+  if (!held) part.left.push(setup ? 'leftVotes' : 'leftVotesSetup');
+  for (const list of held ? sheet.lists : []) {
     const votes = held.votes.get(`${list.constituency} ${list.group}`) ?? 0n;
     part.expect(list.votes === votes, list, 'votesHeld', { should: votes, votes: list.votes });
   }
-  return part;
 }
 
 // Seats of weights by one key. The lines are those of the weights; `total` has to be the sum of the seats.
@@ -127,9 +120,7 @@ function singlePart(part, rows, key, total, lineOfTotal) {
     for (const row of rows) {
       const holds = key.a > 0n && key.b > 0n && rounds(2n * row.weight * key.b, key.a, row.seats);
       const found = quotient(row.weight * key.b, key.a);
-      part.expect(holds, row, found.half ? 'keyHalf' : 'keyRounds', {
-        weight: row.weight, key: `${key.a}/${key.b}`, seats: row.seats, ...found,
-      });
+      part.expect(holds, row, found.half ? 'keyHalf' : 'keyRounds', { weight: row.weight, key: is, seats: row.seats, ...found });
     }
   }
   part.expect(sum(seats) === total, lineOfTotal, 'seatsSum', { sum: sum(seats), total });
@@ -138,8 +129,7 @@ function singlePart(part, rows, key, total, lineOfTotal) {
   }
 }
 
-function seatsPart(sheet, setup) {
-  const part = new Part('seats');
+function seatsPart(part, sheet, setup) {
   sheet.constituencies.forEach((row, i) => {
     part.expect(row.persons >= 1n && row.persons <= 10000000n, row, 'range', { least: 1, most: 10000000 });
     if (setup?.constituencies[i]) {
@@ -151,41 +141,28 @@ function seatsPart(sheet, setup) {
   const rows = sheet.constituencies.map((row) => ({ ...row, weight: row.persons }));
   singlePart(part, rows, sheet.seatsKey, sheet.house.seats, sheet.house);
   if (!setup) part.left.push('leftSeats');
-  return part;
 }
 
-function participationPart(sheet) {
-  const part = new Part('participation');
+function participationPart(part, sheet) {
   for (const group of sheet.groups) {
     const should = takesPart(sheet, group);
     part.expect(group.takesPart === should, group, should ? 'takesPart' : 'takesNoPart');
   }
   part.expect(sheet.groups.some((group) => group.takesPart), sheet.groups[0], 'nobody');
-  return part;
 }
 
-function votersPart(sheet) {
-  const part = new Part('voters');
+function votersPart(part, sheet) {
+  const expect = (group, row, should, reason, values = {}) => (group.takesPart
+    ? part.expect(row.voters === should, row, reason, { ...values, should, is: row.voters })
+    : part.expect(row.voters === null, row, 'votersDash', { is: row.voters }));
   for (const list of sheet.lists) {
-    const { seats } = constituencyFor(sheet, list);
-    if (!groupFor(sheet, list).takesPart) part.expect(list.voters === null, list, 'votersDash', { is: list.voters });
-    else if (seats > 0n) {
-      const should = voterNumber(list.votes, seats);
-      part.expect(list.voters === should, list, 'votersRound', { votes: list.votes, seats, should, is: list.voters });
-    }
+    const [{ votes }, { seats }, group] = [list, constituencyFor(sheet, list), groupFor(sheet, list)];
+    if (seats > 0n || !group.takesPart) expect(group, list, seats > 0n && voterNumber(votes, seats), 'votersRound', { votes, seats });
   }
-  for (const group of sheet.groups) {
-    if (!group.takesPart) part.expect(group.voters === null, group, 'votersDash', { is: group.voters });
-    else {
-      const should = sum(listsOf(sheet, group).map(({ voters }) => voters ?? 0n));
-      part.expect(group.voters === should, group, 'votersOther', { should, is: group.voters });
-    }
-  }
-  return part;
+  for (const group of sheet.groups) expect(group, group, sum(listsOf(sheet, group).map(({ voters }) => voters ?? 0n)), 'votersOther');
 }
 
-function groupsPart(sheet) {
-  const part = new Part('groups');
+function groupsPart(part, sheet) {
   for (const group of sheet.groups) {
     if (!group.takesPart) part.expect(group.seats === 0n, group, 'noPartNoSeats', { is: group.seats });
     const needsDivisor = group.seats > 0n;
@@ -193,11 +170,9 @@ function groupsPart(sheet) {
   }
   const rows = sheet.groups.filter((group) => group.takesPart).map((row) => ({ ...row, weight: row.voters ?? 0n }));
   singlePart(part, rows, sheet.upperKey, sheet.house.seats, sheet.house);
-  return part;
 }
 
-function listsPart(sheet) {
-  const part = new Part('lists');
+function listsPart(part, sheet) {
   for (const [rows, most] of [[sheet.constituencies, MOST_OF_CONSTITUENCY], [sheet.groups, MOST_OF_GROUP]]) {
     for (const row of rows.filter(({ divisor }) => divisor !== null)) {
       part.expect(row.divisor > 0n, row, 'divisorZero');
@@ -211,7 +186,6 @@ function listsPart(sheet) {
   };
   sheet.constituencies.forEach((row) => total(row, listsWithin(sheet, row)));
   sheet.groups.forEach((row) => total(row, listsOf(sheet, row)));
-  return part;
 }
 
 function checkList(part, sheet, list) {
@@ -227,9 +201,15 @@ function checkList(part, sheet, list) {
 }
 
 // All parts, by the names of `zhcount check`.
+const PARTS = {
+  form: formPart, votes: votesPart, seats: seatsPart, participation: participationPart, voters: votersPart, groups: groupsPart,
+  lists: listsPart,
+};
+
 function checkSheet(sheet, setup, held) {
-  return [
-    formPart(sheet, setup), votesPart(sheet, setup, held), seatsPart(sheet, setup), participationPart(sheet),
-    votersPart(sheet), groupsPart(sheet), listsPart(sheet),
-  ];
+  return Object.entries(PARTS).map(([name, check]) => {
+    const part = new Part(name);
+    check(part, sheet, setup, held);
+    return part;
+  });
 }

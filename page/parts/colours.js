@@ -59,9 +59,8 @@ function colourTable(groups) {
     input.addEventListener('change', choose(i + 1));
     return make('tr', {}, make('th', { scope: 'row' }, swatch(i + 1), narrowName(name)), make('td', {}, input));
   };
-  const heads = ['group', 'colour'].map((key) => make('th', { scope: 'col' }, say(key)));
   return make('details', { id: 'colours', class: 'screen', open: find('colours')?.hasAttribute('open') ?? false },
     make('summary', {}, say('colours')), make('p', { class: 'hint' }, say('coloursHint')),
-    make('table', {}, make('thead', {}, make('tr', {}, heads)), make('tbody', {}, groups.map(row))),
+    tableOf({}, [say('group'), say('colour')], groups.map(row)),
     make('button', { type: 'button', onclick: () => keepColours([]) }, say('coloursBack')));
 }

@@ -51,9 +51,10 @@ function quorumCell({ reachedIn, reaches }, all) {
 
 // A table of these rows below these heads, and above the last row, of the sums.
 function soFarTable(id, [caption, ...heads], rows, last) {
-  return make('table', { id }, make('caption', {}, say(caption)),
-    make('thead', {}, make('tr', {}, heads.map((key) => make('th', { scope: 'col' }, say(key))))), make('tbody', {}, rows),
-    make('tfoot', {}, make('tr', {}, make('th', { scope: 'row' }, say('total')), last.map((text) => make('td', {}, text)))));
+  const sums = make('tr', {}, make('th', { scope: 'row' }, say('total')), last.map((text) => make('td', {}, text)));
+  const table = tableOf({ id }, heads.map((key) => say(key)), rows, make('tfoot', {}, sums));
+  table.prepend(make('caption', {}, say(caption)));
+  return table;
 }
 
 function soFar({ count }) {

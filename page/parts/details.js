@@ -115,7 +115,6 @@ function groupDetail(sheet, group, faults, { keys, follow }) {
 function showDetail(children, button) {
   const panel = find('detail');
   const close = () => { panel.hidden = true; panel.replaceChildren(); button.focus(); };
-  panel.replaceChildren(make('button', { type: 'button', class: 'close', 'aria-label': say('close'), onclick: close }, '×'),
-    ...children.flat(Infinity).filter(Boolean));
+  put('detail', make('button', { type: 'button', class: 'close', 'aria-label': say('close'), onclick: close }, '×'), children);
   panel.hidden = false;
 }

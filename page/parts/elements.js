@@ -10,13 +10,23 @@ function fill(element, attributes, children) {
     else if (value === true && !name.startsWith('aria-')) element.setAttribute(name, '');
     else if ((value !== false || name.startsWith('aria-')) && value !== null && value !== undefined) element.setAttribute(name, `${value}`);
   }
-  element.append(...children.flat(Infinity).filter((child) => child !== null && child !== undefined && child !== ''));
+  element.append(...children.flat(Infinity).filter((child) => ![null, undefined, false, ''].includes(child)));
   return element;
+}
+
+// Puts these in the place of what is there.
+function put(id, ...children) {
+  find(id).replaceChildren();
+  fill(find(id), {}, children);
 }
 
 const make = (tag, attributes = {}, ...children) => fill(document.createElement(tag), attributes, children);
 const draw = (tag, attributes = {}, ...children) => (
   fill(document.createElementNS('http://www.w3.org/2000/svg', tag), attributes, children));
+
+// A table of these rows below its heads, and perhaps a last part.
+const tableOf = (attributes, heads, rows, last = null) => make('table', attributes,
+  make('thead', {}, make('tr', {}, heads.map((text) => make('th', { scope: 'col' }, text)))), make('tbody', {}, rows), last);
 
 const SIGNS = { right: '✓', wrong: '✗', mismatch: '≠', damaged: '!', unsure: '!', answer: 'i' };
 const signFor = (state) => make('span', { class: `mark ${state}`, 'aria-hidden': 'true' }, SIGNS[state]);

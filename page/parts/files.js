@@ -124,11 +124,10 @@ function showFiles() {
   const area = make('textarea', { id: 'text', rows: 6, spellcheck: 'false', 'aria-label': say('paste'), 'aria-describedby': 'paste-hint' });
   const takeText = () => { if (area.value !== '') takeFiles([pasted(area.value)]); };
   const had = Object.entries(files).filter(([, file]) => file).map(fileLine);
-  const swap = files.sheet && files.before ? make('p', {}, make('button', {
+  const swap = files.sheet && files.before && make('p', {}, make('button', {
     type: 'button', onclick: () => { [files.sheet, files.before] = [files.before, files.sheet]; show(); },
-  }, say('swap'))) : null;
-  find('files').replaceChildren(
-    make('h2', {}, say('files')),
+  }, say('swap')));
+  put('files', make('h2', {}, say('files')),
     make('div', { class: 'drop' }, make('p', {}, say('threeFiles')), make('dl', {}, threeFiles()),
       make('p', { id: 'choose' }, say('drop')), picked,
       make('label', { for: 'pick' }, say('choose')),
@@ -136,15 +135,13 @@ function showFiles() {
     make('details', {}, make('summary', {}, say('paste')), area,
       make('p', { class: 'hint', id: 'paste-hint' }, say('pasteHint')),
       make('button', { type: 'button', id: 'take', onclick: takeText }, say('take'))),
-    make('ul', { class: 'had' }, had), ...(swap ? [swap] : []));
+    make('ul', { class: 'had' }, had), swap);
 }
 
 // On paper: which files these were.
 function showPapers({ sheet }) {
   const had = Object.entries(files).filter(([kind, file]) => file && kind !== 'before');
-  const heads = [say(sheet ? 'filesChecked' : 'filesOpened'), say('fileName'), 'SHA-256'].map((text) => (
-    make('th', { scope: 'col' }, text)));
-  find('papers').replaceChildren(...(had.length === 0 ? [] : [make('table', {}, make('thead', {}, make('tr', {}, heads)), make('tbody', {},
-    had.map(([kind, file]) => make('tr', {}, make('th', { scope: 'row' }, say(kind)), make('td', {}, isolated(file.name)),
-      make('td', {}, hashOf(file))))))]));
+  const rows = had.map(([kind, file]) => make('tr', {}, make('th', { scope: 'row' }, say(kind)), make('td', {}, isolated(file.name)),
+    make('td', {}, hashOf(file))));
+  put('papers', had.length > 0 && tableOf({}, [say(sheet ? 'filesChecked' : 'filesOpened'), say('fileName'), 'SHA-256'], rows));
 }

@@ -59,7 +59,7 @@ function showLanguages() {
     type: 'button', lang: one, 'aria-pressed': one === language, onclick: () => choose(one),
   }, one === 'de' ? 'Deutsch' : 'English'));
   find('languages').setAttribute('aria-label', say('language'));
-  find('languages').replaceChildren(...choices);
+  put('languages', choices);
 }
 
 // The bar, the sentences under it, and lines to sign, which only a sheet has that is right.
@@ -68,19 +68,19 @@ function showBar(answer, proved = { state: 'absent' }) {
   const isEmpty = answer.own.verdict === 'none';
   const [other] = answer.others;
   Object.assign(document.body.dataset, { state: isEmpty && other ? 'unsure' : colour, own: answer.own.verdict });
-  find('kind').replaceChildren(kindShown(answer));
+  put('kind', kindShown(answer));
   const unread = other && words('otherFile', { file: say(other.name), line: other.fault.line });
   const said = isEmpty && other ? unread : heading;
   const sign = isEmpty ? (other ? 'unsure' : 'answer') : colour;
-  find('verdict').replaceChildren(...(said ? [signFor(sign), ' ', ...reasonOf(said).flat(Infinity)] : []));
-  find('why').replaceChildren(...(caveat ? [make('p', { class: 'caveat' }, reasonOf(caveat))] : []),
-    ...sentence.map((one) => make('p', {}, one.fault ? faultShown(answer.sheet, one.fault) : reasonOf(one))),
-    ...(answer.sheet ? [neverChecked(answer.sheet)] : []));
+  put('verdict', said && [signFor(sign), ' ', reasonOf(said)]);
+  put('why', caveat && make('p', { class: 'caveat' }, reasonOf(caveat)),
+    sentence.map((one) => make('p', {}, one.fault ? faultShown(answer.sheet, one.fault) : reasonOf(one))),
+    answer.sheet && neverChecked(answer.sheet));
   nameParliament(answer, colour);
   showElection(answer);
   showTicks(ticks);
   const blank = (key) => make('p', {}, make('span', { class: 'rule' }), make('span', {}, say(key)));
-  find('signatures').replaceChildren(...(colour === 'right' ? ['place', 'date', 'signature', 'signature'].map(blank) : []));
+  put('signatures', colour === 'right' && ['place', 'date', 'signature', 'signature'].map(blank));
 }
 
 // A fault with its place: the line, and whose it is.
@@ -92,13 +92,11 @@ function faultShown(sheet, fault) {
 // Which election this is: of the sheet, or where there is none of the set-up, with the votes so far.
 function showElection({ sheet, count }) {
   const found = sheet ? { ...sheet, seats: sheet.house.seats, votes: allVotes(sheet) } : count && { ...count, seats: count.house };
-  find('title').replaceChildren(found
-    ? say('election', { seats: found.seats, constituencies: found.constituencies.length }) : say('title'));
-  find('election').replaceChildren(...(found ? [pieces('electionNames', {
-    constituencies: namesShown(found.constituencies.map(({ name }) => name)), groups: namesShown(found.groups.map(({ name }) => name)),
-    votes: found.votes })].flat(Infinity) : []));
-  find('add').replaceChildren(...(files.sheet || count ? [
-    make('button', { type: 'button', onclick: () => find('pick').click() }, say('add'))] : []));
+  const namesOfAll = (rows) => namesShown(rows.map(({ name }) => name));
+  put('title', found ? say('election', { seats: found.seats, constituencies: found.constituencies.length }) : say('title'));
+  put('election', found && pieces('electionNames', {
+    constituencies: namesOfAll(found.constituencies), groups: namesOfAll(found.groups), votes: found.votes }));
+  put('add', (files.sheet || count) && make('button', { type: 'button', onclick: () => find('pick').click() }, say('add')));
 }
 
 // What was checked of it.
@@ -106,7 +104,7 @@ function showTicks(ticks) {
   const one = ({ state, heading, sentence }) => make('li', { class: state }, make('p', {}, signFor(state), ' ', reasonOf(heading)),
     sentence.map((it) => make('p', { class: 'hint' }, reasonOf(it))));
   find('ticks').setAttribute('aria-label', say('ticks'));
-  find('ticks').replaceChildren(...ticks.map(one));
+  put('ticks', ticks.map(one));
 }
 
 // What stands first: where there is nothing to show, what this page is, and the choice of files; else what was found.
@@ -130,9 +128,9 @@ function unlessItFails(work) {
   } catch (fault) {
     proved.tell = () => {};
     Object.assign(document.body.dataset, { state: 'unsure', own: 'failed' });
-    for (const name of ['kind', 'title', 'election', 'ticks', 'shown', 'signatures']) find(name).replaceChildren();
-    find('verdict').replaceChildren(signFor('unsure'), ` ${say('barFailed')}`);
-    find('why').replaceChildren(make('p', {}, reasonOf(words('barFailedSays', { why: `${fault}` }))));
+    for (const name of ['kind', 'title', 'election', 'ticks', 'shown', 'signatures']) put(name);
+    put('verdict', signFor('unsure'), ` ${say('barFailed')}`);
+    put('why', make('p', {}, reasonOf(words('barFailedSays', { why: `${fault}` }))));
     document.body.dataset.shown = '0';
   }
 }
@@ -165,9 +163,9 @@ function showAll() {
   document.documentElement.lang = language;
   const answer = judge();
   document.title = say('title');
-  find('opinion').replaceChildren(...sentence('opinion', 'command', code('zhcount check')));
+  put('opinion', sentence('opinion', 'command', code('zhcount check')));
   find('detail').hidden = true;
-  find('detail').replaceChildren();
+  put('detail');
   askProved(() => unlessItFails(() => {
     showBar(answer, proved);
     showProved(answer);
@@ -178,10 +176,8 @@ function showAll() {
   showFiles();
   showPapers(answer);
   const { sheet, count } = answer;
-  const sections = [sheet ? parliament(answer) : null, soFar(answer), sheet || count ? colourTable((sheet ?? count).groups) : null,
-    problems(answer), sheet ? seatsTable(answer) : null, summary(answer),
-    make('div', { id: 'proved-place' }), changes(answer)];
-  find('shown').replaceChildren(...sections.filter(Boolean));
+  put('shown', sheet && parliament(answer), soFar(answer), (sheet || count) && colourTable((sheet ?? count).groups), problems(answer),
+    sheet && seatsTable(answer), summary(answer), make('div', { id: 'proved-place' }), changes(answer));
   nameParliament(answer, document.body.dataset.state);
   showProved(answer);
   showWhichPage();

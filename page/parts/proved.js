@@ -170,7 +170,7 @@ function provedSection({ state, why, text }, own) {
 
 // Shows it, or what there is of it.
 function showProved({ own }) {
-  find('proved-place').replaceChildren(...[provedSection(proved, own)].filter(Boolean));
+  put('proved-place', provedSection(proved, own));
 }
 
 // How the sum of a file is computed.
@@ -178,6 +178,6 @@ const SUMS = { Linux: 'sha256sum index.html', macOS: 'shasum -a 256 index.html',
 
 // How a reader finds out whether this page was forged, which it can't say itself.
 function showWhichPage() {
-  find('which').replaceChildren(make('p', {}, say('whichPage', { version: VERSION })),
+  put('which', make('p', {}, say('whichPage', { version: VERSION })),
     make('ul', {}, Object.entries(SUMS).map(([system, command]) => make('li', {}, `${system}: `, code(command)))));
 }

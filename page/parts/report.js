@@ -57,9 +57,7 @@ const allMissing = (missing) => (missing.length === 0 ? null : make('details', {
 // The parts of the check.
 function summary({ sheet, parts, held }) {
   if (!sheet) return null;
-  const table = make('table', { id: 'parts', 'aria-labelledby': 'checks-title' },
-    make('thead', {}, make('tr', {}, make('th', { scope: 'col' }, say('part')), make('th', { scope: 'col' }, say('result')))),
-    make('tbody', {}, parts.map((part) => partRow(part, held))));
-  return make('section', { id: 'checks' }, make('h2', { id: 'checks-title' }, say('checks')), table,
-    held ? allMissing(held.missing) : null);
+  const rows = parts.map((part) => partRow(part, held));
+  return make('section', { id: 'checks' }, make('h2', { id: 'checks-title' }, say('checks')),
+    tableOf({ id: 'parts', 'aria-labelledby': 'checks-title' }, [say('part'), say('result')], rows), held && allMissing(held.missing));
 }

@@ -10,6 +10,7 @@ const KEYS = {
 const MOST = { constituency: 32, municipality: 512, group: 32 };
 const KEY = /[a-z_]+/uy;
 const NUMBER = /0|[1-9][0-9]{0,11}/uy;
+const NAME = /"[^"\\\u0000-\u001f\u007f]*(?:\\["\\][^"\\\u0000-\u001f\u007f]*)*"/uy;
 
 // Goes along a line once, from left to right, and never back by more than a word.
 class Along {
@@ -38,16 +39,8 @@ class Along {
 
   // A text in quotation marks; null where there is none, or one with other escapes than those of the mark and of \.
   quoted() {
-    if (!this.takes('"')) return null;
-    for (let text = ''; this.at < this.line.length;) {
-      let next = this.line[this.at];
-      if (next === '"') { this.at += 1; return text; }
-      if (next === '\\') { this.at += 1; next = this.line[this.at]; if (next !== '"' && next !== '\\') return null; }
-      if (next < ' ' || next === '\u007f') return null;
-      text += next;
-      this.at += 1;
-    }
-    return null;
+    const name = this.word(NAME);
+    return name === '' ? null : name.slice(1, -1).replace(/\\(.)/gu, '$1');
   }
 
   // Numbers in brackets, one at least; null where there are none.

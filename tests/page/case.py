@@ -29,10 +29,10 @@ list 3 2 votes 60 voters 30 seats 1
 list 3 3 votes 50 voters 25 seats 0
 end
 """
-EXAMPLE_SETUP = sheets.setup("rehearsal")
+SETUP = sheets.setup("rehearsal")
 ROWS = model.Election(10, [5000, 3000, 2000], [[525, 300, 175], [240, 330, 30], [90, 60, 50]]).held()
 # The set-up and the rows, as they stand after a sheet of the example.
-OTHERS = (EXAMPLE_SETUP, ROWS)
+OTHERS = (SETUP, ROWS)
 LARGEST = model.made_up(1, 32, 32, 400, quorum=1)
 HEADINGS = {"wrong": "✗ Wrong: ", "mismatch": "≠ Does not match the ", "damaged": "! This file is "}
 # German words beside those that a desk, an entry, the office, a sheet, a set-up and a verdict have; and what a Swiss office does not write.

@@ -3,13 +3,13 @@ import itertools
 
 import model
 from browser import By
-from case import EXAMPLE, EXAMPLE_SETUP, OTHERS, ROWS, Case, changed
+from case import EXAMPLE, SETUP, OTHERS, ROWS, Case, changed
 
 FAULT = {"line": 7, "reason": "nobody", "values": {}}
 KINDS = [{"colour": colour, "heading": {"key": "isSeats"}, "sentence": [{"fault": FAULT}]} for colour in ("wrong", "mismatch")]
 OWN = ({"verdict": "right"}, *({"verdict": "wrong", "fault": FAULT, "count": 2, "kind": kind} for kind in KINDS))
 PROVED = ("right", "wrong", "runs", "none", "alone", "absent", "refused", "failed")
-SETUP = ({"is": "none"}, {"is": "read"}, {"is": "unread", "line": 3})
+SET_UP_IS = ({"is": "none"}, {"is": "read"}, {"is": "unread", "line": 3})
 GIVEN = ({"is": "none"}, {"is": "compared"}, {"is": "given"}, {"is": "unread", "line": 4})
 REFUSALS = (("tied seats", "The seats of the constituencies are tied"), ("noseat 3", "Constituency 3 (West) would have no seat"),
             ("nogroup", "No group takes part"), ("novoters", "has 0 voters"), ("tied upper", "groups in the canton are tied"),
@@ -17,27 +17,29 @@ REFUSALS = (("tied seats", "The seats of the constituencies are tied"), ("noseat
             ("exhausted", "search for divisors ended without any"), ("notclosed 512", "Municipality 512 is still open"),
             ("memory", "too little memory"), ("reopen-disk", "has to be opened again"))
 # A set-up with what TOML has and this page does not understand.
-SPREAD = EXAMPLE_SETUP.replace("[1, 2, 3]", "[1,\n2, 3]", 1)
+SPREAD = SETUP.replace("[1, 2, 3]", "[1,\n2, 3]", 1)
 OF_SHEET, OF_VOTES, OF_ONE, DIFFER = ("! Not fully checked: the seats fit the votes on the sheet",
                                       "! Not fully checked: right for the votes on the sheet",
                                       "! Not fully checked: right by one check of two", "✗ The two checks differ")
 # The colour of the bar, its heading, what is said below it, what the proved check says, and the files.
 BARS = (
-    ("unsure", OF_SHEET, "! Not opened: the set-up Without the set-up, number of seats, names, persons, quorum and lists are not checked: a "
-     "list too many or too few would not show. ! Not opened: the returns Whether these are the votes that were reported is not checked. "
-     "! One check of two says: right The proved check needs the set-up.", "alone", EXAMPLE),
-    ("unsure", OF_VOTES, "✓ Set-up opened ! Not opened: the returns", "right", EXAMPLE, EXAMPLE_SETUP),
-    ("unsure", OF_SHEET, "! Returns opened, but not compared To compare them, the page needs the set-up.", "alone", EXAMPLE, None, ROWS),
-    ("unsure", OF_VOTES, "! Returns not understood: line 11 The votes are compared with nothing.", "right", EXAMPLE, EXAMPLE_SETUP, ROWS + "x\n"),
-    ("unsure", OF_SHEET, "! Set-up not understood: line 23 Number of seats, names, persons, quorum and lists are not checked by this page. "
-     "! Returns opened, but not compared To compare them, the page needs the set-up. ✓ Both checks say: right", "right", EXAMPLE, SPREAD, ROWS),
-    ("wrong", "✗ Wrong by the proved check", "It looked at more than this page’s own check could.", "wrong", EXAMPLE, SPREAD, ROWS),
+    ("unsure", OF_ONE, "The proved check did not run: no memory", "failed", EXAMPLE, *OTHERS),
+    ("unsure", OF_ONE, "This copy of the page has no proved check.", "absent", EXAMPLE, *OTHERS),
+    ("unsure", "! The proved check is at work", "own check says: right", "runs", EXAMPLE, *OTHERS),
     ("right", "✓ Right", "these are the votes of all 9 returns.", "right", EXAMPLE, *OTHERS),
     ("wrong", DIFFER, "own check says right, the proved check says wrong", "wrong", EXAMPLE, *OTHERS),
-    ("wrong", DIFFER, "own check says wrong at line 2, the proved check says right", "right", changed(EXAMPLE, "house 10", "house 11"), EXAMPLE_SETUP),
-    ("unsure", "! The proved check is at work", "own check says: right", "runs", EXAMPLE, *OTHERS),
-    ("unsure", OF_ONE, "This copy of the page has no proved check.", "absent", EXAMPLE, *OTHERS),
-    ("unsure", OF_ONE, "The proved check did not run: no memory", "failed", EXAMPLE, *OTHERS))
+    ("wrong", DIFFER, "own check says wrong at line 2, the proved check says right", "right", changed(EXAMPLE, "house 10", "house 11"),
+     SETUP),
+    ("wrong", "✗ Wrong by the proved check", "It looked at more than this page’s own check could.", "wrong", EXAMPLE, SPREAD, ROWS),
+    ("unsure", OF_VOTES, "✓ Set-up opened ! Not opened: the returns", "right", EXAMPLE, SETUP),
+    ("unsure", OF_VOTES, "! Returns not understood: line 11 The votes are compared with nothing.", "right", EXAMPLE, SETUP, ROWS + "x\n"),
+    ("unsure", OF_SHEET, "! Returns opened, but not compared To compare them, the page needs the set-up.", "alone", EXAMPLE, None, ROWS),
+    ("unsure", OF_SHEET, "! Set-up not understood: line 23 Number of seats, names, persons, quorum and lists are not checked by this page. "
+     "! Returns opened, but not compared To compare them, the page needs the set-up. ✓ Both checks say: right", "right", EXAMPLE, SPREAD,
+     ROWS),
+    ("unsure", OF_SHEET, "! Not opened: the set-up Without the set-up, number of seats, names, persons, quorum and lists are not checked: "
+     "a list too many or too few would not show. ! Not opened: the returns Whether these are the votes that were reported is not checked. "
+     "! One check of two says: right The proved check needs the set-up.", "alone", EXAMPLE))
 
 
 class Bar(Case):
@@ -45,7 +47,7 @@ class Bar(Case):
         """Every combination."""
         found = [{"own": own, "proved": {"state": proved, "why": "time"}, "setup": setup, "rows": rows,
                   "returns": {"rows": held, "possible": 9, "missing": [{"name": "Nord", "lists": ["A"]}]}}
-                 for own, proved, setup, rows, held in itertools.product(OWN, PROVED, SETUP, GIVEN, (0, 8, 9))]
+                 for own, proved, setup, rows, held in itertools.product(OWN, PROVED, SET_UP_IS, GIVEN, (0, 8, 9))]
         bars = self.page.run("return arguments[0].map(barOf)", found)
         for one, said in zip(found, bars, strict=True):
             own, proved = one["own"]["verdict"], one["proved"]["state"]
@@ -79,7 +81,7 @@ class Bar(Case):
         more = changed(changed(EXAMPLE, "25 seats 0\n", "25 seats 0\nlist 3 4 votes 0 voters - seats 0\n"), "divisor 1.000000 C\n",
                        "divisor 1.000000 C\ngroup 4 quorum no voters - seats 0 divisor - D\n")
         self.assertIn("a list too many", self.holds(more).text("#ticks"))
-        self.assertEqual(self.page.show(more, EXAMPLE_SETUP).state(), "mismatch")
+        self.assertEqual(self.page.show(more, SETUP).state(), "mismatch")
 
     def test_a_sheet_alone(self):
         page = self.page.show(EXAMPLE)
@@ -89,7 +91,7 @@ class Bar(Case):
         for text in ("Not checked without the set-up: number of seats, quorum, names", "Not compared with the returns",
                      "Not checked without the set-up: the persons"):
             self.assertIn(text, page.text("#checks"))
-        self.assertNotIn("without the set-up", page.show(EXAMPLE, EXAMPLE_SETUP).text("#checks"))
+        self.assertNotIn("without the set-up", page.show(EXAMPLE, SETUP).text("#checks"))
         self.assertIn("only together with the set-up", page.show(EXAMPLE, None, ROWS).text("#problems"))
         self.assertIn("this line is not understood here", page.show(EXAMPLE, SPREAD).text(".fault .reason"))
 
@@ -131,7 +133,7 @@ class Bar(Case):
                 "de": ("Das Resultatblatt nennt sich «endgültig»", "Das Parlament nach einem Resultatblatt, das sich «endgültig» nennt",
                        "Nie geprüft: dass es endgültig ist und wie viele Einträge der Pulte es zählt (nach eigener Angabe 9).")}
         for colour, proved, *files in (("right", "right", final, *OTHERS), ("unsure", "alone", final), ("wrong", "wrong", wrong, *OTHERS),
-                                       ("mismatch", "wrong", final, EXAMPLE_SETUP, changed(ROWS, "1,1,1,525", "1,1,1,526"))):
+                                       ("mismatch", "wrong", final, SETUP, changed(ROWS, "1,1,1,525", "1,1,1,526"))):
             for language, (called, picture, never) in said.items():
                 with self.subTest(colour, language=language):
                     self.page.speak(language)
@@ -143,7 +145,7 @@ class Bar(Case):
         for name, why in REFUSALS:
             for text in (f"1 refused {name}\n", f"zhcount: refused {name}\n", f"8 refused {name}"):
                 with self.subTest(text):
-                    page = self.page.show(text, EXAMPLE_SETUP).proved("wrong")
+                    page = self.page.show(text, SETUP).proved("wrong")
                     self.assertEqual(page.bar(), ("refused", "answer"))
                     (kind,), (verdict,), sentences, (said,), *none = page.seen(
                         "#kind", "#verdict", "#why p", "#proved p", "#ticks li", ".fault, #signatures p")
@@ -158,13 +160,13 @@ class Bar(Case):
 
     def test_all_faults_are_listed(self):
         sheet = EXAMPLE
-        for line in ("list 1 1 votes 525 voters 105 seats 3", "list 2 2 votes 330 voters 110 seats 2", "list 3 3 votes 50 voters 25 seats 0"):
-            sheet = changed(sheet, line, line[:-1] + "9")
-        lines, reasons, count = self.page.show(sheet, EXAMPLE_SETUP).seen(".fault pre", ".fault .reason", "#count")
+        for line in ("525 voters 105 seats 3", "330 voters 110 seats 2", "50 voters 25 seats 0"):
+            sheet = changed(sheet, f"votes {line}", f"votes {line[:-1]}9")
+        lines, reasons, count = self.page.show(sheet, SETUP).seen(".fault pre", ".fault .reason", "#count")
         self.assertEqual([int(line.split(":")[0]) for line in lines], [11, 15, 19, 5, 6, 7, 8, 9, 10])
         self.assertEqual((len(reasons), count), (9, ["9 checks fail."]))
         # All that is wrong with one line stands together.
-        self.page.show(changed(EXAMPLE, "votes 525 voters 105 seats 3", "votes 525 voters 104 seats 4"), EXAMPLE_SETUP)
+        self.page.show(changed(EXAMPLE, "votes 525 voters 105 seats 3", "votes 525 voters 104 seats 4"), SETUP)
         self.assertIn(["525 / 5, rounded, is 105 voters, and not 104",
                        "525 / (205.000000 × 1.000000) = 2.560.. rounds to 3, and not to 4 seats"],
                       [[reason.text for reason in box.find_elements(By.CSS_SELECTOR, ".reason")] for box in self.page.all(".fault")])

@@ -1,11 +1,11 @@
 """Colours that a reader chooses for groups, which the address keeps."""
 from selenium.webdriver.common.keys import Keys
 
-from case import EXAMPLE, EXAMPLE_SETUP, LARGEST, ROWS, Case
+from case import EXAMPLE, SETUP, LARGEST, ROWS, Case
 from test_sight import contrast
 
 RED, YELLOW = "rgb(227, 6, 19)", "rgb(255, 237, 0)"
-SO_FAR = (None, EXAMPLE_SETUP, ROWS)
+SO_FAR = (None, SETUP, ROWS)
 VALUES = "return [...document.querySelectorAll('#colours input')].map((one) => one.value)"
 # What has no colour: only a number of a group and a colour of six digits count.
 NONE = ("#x", "#0=e30613", "#33=e30613", "#2=red", "#2=e3061", "#2=e30613}body{display:none", "#2", "#__proto__=e30613")
@@ -88,5 +88,5 @@ class Colours(Chosen, Case):
                 """, number)
                 self.assertGreaterEqual(contrast(stroke, ground), 3, (number, scheme))
                 self.assertGreaterEqual(contrast(on, fill), 4.5, (number, scheme))
-        self.at("#1=b00020", EXAMPLE, EXAMPLE_SETUP, ROWS).proved("right")
+        self.at("#1=b00020", EXAMPLE, SETUP, ROWS).proved("right")
         self.bar_is("right", "✓ Right")

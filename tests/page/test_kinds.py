@@ -1,12 +1,12 @@
 """What kind of wrong a sheet is, with both values, whether seats change, and what the first screen has of it."""
 import model
 import sheets
-from case import EXAMPLE, EXAMPLE_SETUP, LARGEST, OTHERS, ROWS, WRONG, WRONG_KEY, Case, changed
+from case import EXAMPLE, SETUP, LARGEST, OTHERS, ROWS, WRONG, WRONG_KEY, Case, changed
 from sheets import ZURICH
 
 DIVISOR = changed(EXAMPLE, "205.000000", "150.000000")
 NO_DIVISOR = changed(EXAMPLE, "seats 5 divisor 1.000000 A", "seats 5 divisor - A")
-ELEVEN, MORE = changed(EXAMPLE_SETUP, "house = 10", "house = 11"), changed(ROWS, "1,1,1,525", "1,1,1,526")
+ELEVEN, MORE = changed(SETUP, "house = 10", "house = 11"), changed(ROWS, "1,1,1,525", "1,1,1,526")
 COPIED = EXAMPLE.removeprefix("1 ")
 
 
@@ -27,20 +27,22 @@ NO_SHEET = ("The seats are not checked, and nothing is said against",
 # Headings, what else is said, and what is not, and the files: of sheets that are wrong themselves, of those that do not match another file,
 # and of those that can't be read.
 KINDS = (
-    (OF_DIVISOR, [f"The divisor of Nord is 150.000000 on the sheet; between 200 and 210 {GIVES}.", NO_CHANGE, "✗ Both checks say: wrong They "
-     "are the proved check and this page’s own. By the latter: a divisor, not the seats.", "2 checks fail. No seat changes.",
-     "The parliament as this sheet has it"], [], DIVISOR, *OTHERS),
+    (OF_DIVISOR, [
+        f"The divisor of Nord is 150.000000 on the sheet; between 200 and 210 {GIVES}.", NO_CHANGE, "2 checks fail. No seat changes.",
+        "✗ Both checks say: wrong They are the proved check and this page’s own. By the latter: a divisor, not the seats.",
+        "The parliament as this sheet has it"], [], DIVISOR, *OTHERS),
     (OF_DIVISOR, ["The divisor of A is 1.500000 on the sheet; between "], [], changed(EXAMPLE, "1.000000 A", "1.500000 A"), *OTHERS),
     (OF_DIVISOR, ["Line 11 of the sheet: Nord, A: 525 / (150", NO_CHANGE], [GIVES], changed(DIVISOR, "190.000000", "100.000000"), *OTHERS),
     (OF_DIVISOR, [], [GIVES], NO_DIVISOR, *OTHERS),
     (OF_DIVISOR, [], [GIVES], NO_DIVISOR.replace("divisor 1.000000", "divisor -"), *OTHERS),
     (OF_DIVISOR, [GIVES], [], changed(EXAMPLE, "205.000000", "0.000000"), *OTHERS),
-    ("✗ Wrong: a number of voters; the seats are right", ["Line 11 of the sheet: Nord, A: 525 / 5, rounded, is 105 voters, and not 104",
-                                                          NO_CHANGE], [GIVES], changed(DIVISOR, "525 voters 105", "525 voters 104"), *OTHERS),
+    ("✗ Wrong: a number of voters; the seats are right", [
+        "Line 11 of the sheet: Nord, A: 525 / 5, rounded, is 105 voters, and not 104", NO_CHANGE], [GIVES],
+     changed(DIVISOR, "525 voters 105", "525 voters 104"), *OTHERS),
     ("✗ Wrong: a key; the seats are right", ["Line 3 of the sheet: the key should be 10,000/10, and not 10,000/9", NO_CHANGE], [],
      changed(EXAMPLE, "10000/10", "10000/9"), *OTHERS),
-    ("✗ Wrong: a sum of votes; the seats are right", ["Line 5 of the sheet: Nord: the votes of its lists make 1,000, and not 999", NO_CHANGE],
-     [], changed(EXAMPLE, "votes 1000", "votes 999"), *OTHERS),
+    ("✗ Wrong: a sum of votes; the seats are right", [
+        "Line 5 of the sheet: Nord: the votes of its lists make 1,000, and not 999", NO_CHANGE], [], changed(EXAMPLE, "votes 1000", "votes 999"), *OTHERS),
     ("✗ Wrong: who takes part; the seats are right", [
         "Line 10 of the sheet: C: by its votes this group takes part (quorum yes); the sheet says no", NO_CHANGE], [],
      changed(EXAMPLE, "quorum yes voters 70", "quorum no voters 70"), *OTHERS),
@@ -53,14 +55,15 @@ KINDS = (
     ("✗ Wrong: a total of seats", ["A in total 5, not 6", "1 A 6 right: 5 2 B"], [],
      changed(EXAMPLE, "voters 230 seats 5", "voters 230 seats 6"), *OTHERS),
     # Beside other files that do not match, the seats that are said to follow are those of its own votes.
-    *(("✗ Wrong: 1 seat", ["Seats change.", OTHER_SEATS, NOR], [], WRONG, *it) for it in ((ELEVEN, ROWS), (EXAMPLE_SETUP, MORE), (ELEVEN, MORE))),
+    *(("✗ Wrong: 1 seat", ["Seats change.", OTHER_SEATS, NOR], [], WRONG, *it) for it in (
+        (ELEVEN, ROWS), (SETUP, MORE), (ELEVEN, MORE))),
     (OF_DIVISOR, [NO_CHANGE, NOR], [], DIVISOR, ELEVEN, ROWS),
     ("✗ Wrong: a sum of votes", ["Whether seats change is not known"], [],
-     changed(EXAMPLE, "list 1 3 votes 175 voters 35 seats 1\n", ""), EXAMPLE_SETUP),
+     changed(EXAMPLE, "list 1 3 votes 175 voters 35 seats 1\n", ""), SETUP),
     # The sheet is right by its own votes, and none of what the rows would change is said to be so.
     *((f"{OTHER_VOTES}, the same seats", [
         f"Line 11 of the sheet: Nord, A: the returns make {new} votes, the sheet says 525", "By the returns the seats would be the same.",
-        f"By its own votes the sheet is right. {said}", "≠ Both checks say: no match"], [], EXAMPLE, EXAMPLE_SETUP,
+        f"By its own votes the sheet is right. {said}", "≠ Both checks say: no match"], [], EXAMPLE, SETUP,
        changed(ROWS, "1,1,1,525", f"1,1,1,{new}")) for new, said in (
            ("526", "The returns have more votes: they may be newer than this sheet."),
            ("524", "The returns have fewer votes: they may be older than this sheet."))),
@@ -68,16 +71,16 @@ KINDS = (
         "more votes in some lists and fewer in others", "Nord, A: the returns make 325 votes", "Nord, B: the returns make 500 votes",
         "By the returns other seats would follow.", "≠ Returns opened, but they have other votes", "1 A 5 by the returns: 4",
         "The parliament as this sheet has it: the files do not match", "It says that the sheet does not match the other files"],
-     ["Seats change", " right: "], EXAMPLE, EXAMPLE_SETUP, changed(changed(ROWS, "1,1,1,525", "1,1,1,325"), "1,2,1,300", "1,2,1,500")),
+     ["Seats change", " right: "], EXAMPLE, SETUP, changed(changed(ROWS, "1,1,1,525", "1,1,1,325"), "1,2,1,300", "1,2,1,500")),
     (OTHER_SETUP, ["Line 2 of the sheet: the set-up says 11 seats in all, the sheet 10", "By this set-up other seats would follow.",
                    "By its own numbers the sheet is right. The set-up may be that of another election", "with 11 seats: ",
                    "≠ Set-up opened, but it does not match"], [], EXAMPLE, ELEVEN, ROWS),
     (OTHER_SETUP, ["Line 5 of the sheet: Nord: the set-up says Norden, the sheet Nord", "By this set-up the seats would be the same."], [],
-     EXAMPLE, changed(EXAMPLE_SETUP, '"Nord"', '"Norden"'), ROWS),
+     EXAMPLE, changed(SETUP, '"Nord"', '"Norden"'), ROWS),
     *(("✗ Wrong: this is not a sheet", ["Line 1 of the sheet: it does not belong here"], [], it, *OTHERS) for it in (
         "hello\n", COPIED.replace("provisional", "official"), f"9 {COPIED}", f" {COPIED}")),
-    *(("! This file is damaged: get it again", ["it ends in a carriage return", *NO_SHEET], ["Both checks"], it.replace("\n", "\r\n"), *OTHERS)
-      for it in (EXAMPLE, COPIED)),
+    *(("! This file is damaged: get it again", ["it ends in a carriage return", *NO_SHEET], ["Both checks"], it.replace("\n", "\r\n"),
+       *OTHERS) for it in (EXAMPLE, COPIED)),
     ("! This file is cut off: get it again", ["the sheet is cut off within", *NO_SHEET], ["Both checks"], EXAMPLE[:300], *OTHERS))
 
 
@@ -98,7 +101,7 @@ class Kinds(Case):
     def test_a_sheet_that_was_copied_from_a_desk(self):
         """Its first line has no desk: whatever the file is called, the page says what is missing, and what to do."""
         for name in ("sheet", "sheet.csv", "sheet.toml"):
-            page = self.page.open().choose((name, COPIED), ("setup.toml", EXAMPLE_SETUP), ("held.csv", ROWS))
+            page = self.page.open().choose((name, COPIED), ("setup.toml", SETUP), ("held.csv", ROWS))
             self.bar_is("damaged", "! Copied from a desk: the desk’s number is missing")
             self.assertIn("Line 1 of the sheet: the desk’s number is missing; put it and a space before this line (for desk 1: “1 sheet "
                           "provisional 9”)", page.text("#why"))
@@ -111,7 +114,7 @@ class Kinds(Case):
         self.assertIn("Whether seats change is not known", self.page.show(tied).text("#why"))
 
     def test_right_sheets_and_the_seats_that_follow(self):
-        """The page's own check says right of each, and finds no others: of those of the repository, and some made up with other divisors."""
+        """The page's own check says right of each, and finds no others: of those of the repository, and of some made up."""
         given = [found[:count] for _, *found in sheets.all_sheets() for count in (1, 2, 3)]
         sizes = ((9, 8, 125, None), (18, 9, 180, 30), (4, 3, 20, 30), (1, 5, 40, None), (20, 13, 180, 1))
         given += [model.made_up(seed, *size, quorum=quorum).files() for seed, (*size, quorum) in enumerate(sizes)]
@@ -127,7 +130,7 @@ class Kinds(Case):
                 """, *files), [])
 
     def test_one_and_more(self):
-        page = self.page.show("hello\n", EXAMPLE_SETUP)
+        page = self.page.show("hello\n", SETUP)
         self.assertIn(" 1 line Remove", page.text(".had .sheet"))
         one = ["1 line, 1 check holds, Returns opened: the only one", "1 Zeile, 1 Prüfung bestanden, Meldungen geöffnet: die einzige"]
         two = ["2 lines, 2 checks hold, Returns opened: all 2", "2 Zeilen, 2 Prüfungen bestanden, Meldungen geöffnet: alle 2"]
@@ -139,7 +142,7 @@ class Kinds(Case):
     def test_the_first_screen(self):
         """Verdict, election, ticks and parliament are seen at 1280 x 900 without scrolling."""
         self.has_screen(1280, 900, 1, False)
-        for proved, *files in (("right", EXAMPLE, *OTHERS), ("alone", EXAMPLE), ("wrong", WRONG, *OTHERS), ("wrong", EXAMPLE, EXAMPLE_SETUP, MORE),
+        for proved, *files in (("right", EXAMPLE, *OTHERS), ("alone", EXAMPLE), ("wrong", WRONG, *OTHERS), ("wrong", EXAMPLE, SETUP, MORE),
                                ("right", *ZURICH), ("alone", ZURICH.sheet), ("wrong", WRONG_KEY, *ZURICH[1:])):
             for language in ("en", "de"):
                 self.page.speak(language)

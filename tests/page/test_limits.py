@@ -1,14 +1,14 @@
 """The limits of divisors, set-ups and rows, and inputs that would take long."""
 import hashlib
 
-from case import EXAMPLE, EXAMPLE_SETUP, LARGEST, ROWS, Case, changed
+from case import EXAMPLE, SETUP, LARGEST, ROWS, Case, changed
 
 MIB = 1_048_576
 LONGEST_SHEET, LONGEST_ROWS = 280_064, 483_488
 # So many milliseconds: what is opened is read, checked, shown and laid out in fewer. That is ten times what the slowest takes, for
 # machines that are busy; what goes through a text again and again takes more. It is meant for a machine that runs a loop in YARDSTICK
 # milliseconds: where the loop takes longer, so may the page.
-MOST, YARDSTICK, TIMES = 5000, 60, 3
+MOST, YARDSTICK, TIMES = 5000, 60, 2
 
 HOUSE, ROW, HEAD = "house = 10", "1,2,1,300", "municipality,list,number,votes\n"
 BLANK, COMMENT, RETURN, NO_ROW = ("not understood here", "its comment has a control character", "a carriage return (CR)",
@@ -22,11 +22,12 @@ SET_UPS = (
     *((2, COMMENT, HOUSE, f"house = 10 # {it}") for it in "\0\1\b\u000b\u001f\u007f"),
     *((3, COMMENT, HOUSE, f"house = 10\n#{it}") for it in "\0\1\b\u000b\u001f\u007f"),
     (2, RETURN, f"{HOUSE}\n", "house = 10\r\r\n", "house = 10\rx\n"),
-    (EXAMPLE_SETUP.count("\n") + 1, RETURN, EXAMPLE_SETUP, EXAMPLE_SETUP + "# the end\r"),
-    (1, RETURN, EXAMPLE_SETUP, EXAMPLE_SETUP.replace("\n", "\r")),
-    (0, "more than 1,048,576 bytes", EXAMPLE_SETUP, EXAMPLE_SETUP.ljust(MIB, "#") + "\n"),
-    (2, "not known here", HOUSE, "colour = 10"), (2, "from 1 to 400", HOUSE, "house = 401"), (1, "from 1 to 2", "version = 1", "version = 3"),
-    (4, "another kind", 'name = "Nord"', "name = 5"), (7, "this name is there twice", '"Mitte"', '"Nord"'),
+    (SETUP.count("\n") + 1, RETURN, SETUP, SETUP + "# the end\r"),
+    (1, RETURN, SETUP, SETUP.replace("\n", "\r")),
+    (0, "more than 1,048,576 bytes", SETUP, SETUP.ljust(MIB, "#") + "\n"),
+    (2, "not known here", HOUSE, "colour = 10"), (2, "from 1 to 400", HOUSE, "house = 401"),
+    (1, "from 1 to 2", "version = 1", "version = 3"), (4, "another kind", 'name = "Nord"', "name = 5"),
+    (7, "this name is there twice", '"Mitte"', '"Nord"'),
     (1, "“house” is missing", HOUSE, ""), (3, "“house” is there twice", HOUSE, "house = 10\nhouse = 10"))
 MAY_HAVE = ("\t house\t =\t10 \t", "house = 10 # a tab\tis none, nor is \u00e9\u2028", "\n# a remark\n\nhouse = 10  # more")
 # And what rows may not have.
@@ -73,13 +74,13 @@ class Limits(Case):
 
     def test_set_ups(self):
         """Only spaces and tabs are blanks, numbers have no zeros before them, comments no control characters, no CR stands alone, .."""
-        self.are_faults(SET_UPS, EXAMPLE_SETUP, [*(changed(EXAMPLE_SETUP, HOUSE, it) for it in MAY_HAVE),
-                                                 EXAMPLE_SETUP.replace("\n", "\r\n"), EXAMPLE_SETUP.ljust(MIB - 1, "#") + "\n"])
+        self.are_faults(SET_UPS, SETUP, [*(changed(SETUP, HOUSE, it) for it in MAY_HAVE), SETUP.replace("\n", "\r\n"),
+                                         SETUP.ljust(MIB - 1, "#") + "\n"])
 
     def test_rows(self):
         longest = sum(len(f"{m},{g},4294967295,1000000000\n") for m in range(1, 513) for g in range(1, 33)) + len(HEAD)
         self.assertEqual(longest + 32 * 512 + 1, LONGEST_ROWS)
-        self.are_faults(HELD, ROWS, [changed(ROWS, ROW, "1,2,4294967295,300"), ROWS.ljust(LONGEST_ROWS, "\n")], EXAMPLE_SETUP)
+        self.are_faults(HELD, ROWS, [changed(ROWS, ROW, "1,2,4294967295,300"), ROWS.ljust(LONGEST_ROWS, "\n")], SETUP)
 
     def test_the_longest_sheet(self):
         self.assertLess(len(LARGEST.sheet().encode()), LONGEST_SHEET)
@@ -156,4 +157,4 @@ class Hostile(Case):
                 self.is_quick(("sheet", EXAMPLE), ("setup.toml", text))
         for text in ("\n" * 483_000, "," * 483_000, "1" * 483_000, "1,1,1,1\n" * 487_500):
             with self.subTest(text[:40]):
-                self.is_quick(("sheet", EXAMPLE), ("setup.toml", EXAMPLE_SETUP), ("held.csv", HEAD + text))
+                self.is_quick(("sheet", EXAMPLE), ("setup.toml", SETUP), ("held.csv", HEAD + text))

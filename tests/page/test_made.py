@@ -27,16 +27,12 @@ def test_module(program):
     passes("page/seal --check-module")
 
 
-@pytest.mark.parametrize("other, says", [
-    ({}, None),
-    ({"module": "d"}, "differs from page/module.sum: module. "),
-    ({"binaryen": "120"}, "is of binaryen 108, and this is 120, .*before binaryen it is the same"),
-    ({"binaryen": "120", "64-bit": "d"}, "is of binaryen 108, and this is 120, .*before binaryen it differs too"),
-])
-def test_another_module_is_said(other, says):
-    fault = SEAL.fault_of_module({**NOTE, **other}, NOTE)
-    assert fault is None if says is None else re.search(says, fault)
-
-
 def test_card():
     passes("scripts/card")
+
+
+def test_another_module_is_said():
+    for other, says in (({}, "None"), ({"module": "d"}, "differs from page/module.sum: module. "),
+                        ({"binaryen": "120"}, "is of binaryen 108, and this is 120, .*before binaryen it is the same"),
+                        ({"binaryen": "120", "64-bit": "d"}, "is of binaryen 108, and this is 120, .*before binaryen it differs too")):
+        assert re.search(says, str(SEAL.fault_of_module({**NOTE, **other}, NOTE)))

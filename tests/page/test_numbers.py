@@ -3,7 +3,7 @@ import re
 from fractions import Fraction
 
 import sheets
-from case import EXAMPLE, EXAMPLE_SETUP, OTHERS, ROWS, Case, changed
+from case import EXAMPLE, SETUP, OTHERS, ROWS, Case, changed
 from sheets import ZURICH
 
 # Numbers and names of a sheet that are forged, one by one.
@@ -53,9 +53,9 @@ class Numbers(Case):
             self.page.show(changed(EXAMPLE, wrong, f"votes {votes} voters 105 seats {seats}").replace("205.000000", "200.000000"))
             self.says(lists, f"Nord, A: {seats} seat{'' if seats == '1' else 's'} ✗ wrong")
             self.assertIn("lists", self.page.failing())
-        self.page.show(EXAMPLE, EXAMPLE_SETUP, changed(ROWS, "1,1,1,525", "1,1,1,526"))
+        self.page.show(EXAMPLE, SETUP, changed(ROWS, "1,1,1,525", "1,1,1,526"))
         self.says(lists, "wrong What does not hold: the returns make 526 votes")
-        self.page.show(changed(EXAMPLE, "seats key 10000/10", "seats key 10000/9"), EXAMPLE_SETUP)
+        self.page.show(changed(EXAMPLE, "seats key 10000/10", "seats key 10000/9"), SETUP)
         self.says("tbody th", "This key itself is wrong: line 3.")
         self.assertEqual(self.page.show(changed(EXAMPLE, "house 10", "house 11")).texts("#seats tfoot td")[-1], "11✗")
 

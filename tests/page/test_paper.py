@@ -4,7 +4,7 @@ import hashlib
 import re
 
 import model
-from case import EXAMPLE, EXAMPLE_SETUP, LARGEST, ROWS, WRONG_KEY, Case
+from case import EXAMPLE, SETUP, LARGEST, ROWS, WRONG_KEY, Case
 from sheets import ZURICH
 
 CALLED, FEW = "The sheet calls itself “final”", "".join(ROWS.splitlines(keepends=True)[:5])
@@ -37,10 +37,12 @@ class Paper(Case):
 
     def test_what_is_not_right_is_not_to_be_signed(self):
         for sheet, others, proved, said in (
-                (WRONG_KEY, ZURICH[1:], "wrong", "Wrong: a key; the seats are right"), (WRONG_KEY, ZURICH[1:], "right", "The two checks differ"),
-                (ZURICH.sheet, ZURICH[1:], "wrong", "The two checks differ"), (ZURICH.sheet, ZURICH[1:], "failed", "right by one check of two"),
+                (WRONG_KEY, ZURICH[1:], "wrong", "Wrong: a key; the seats are right"),
+                (WRONG_KEY, ZURICH[1:], "right", "The two checks differ"), (ZURICH.sheet, ZURICH[1:], "wrong", "The two checks differ"),
+                (ZURICH.sheet, ZURICH[1:], "failed", "right by one check of two"),
                 (ZURICH.sheet, ZURICH[1:2], "right", "right for the votes on the sheet"),
-                (ZURICH.sheet, (), "alone", "the seats fit the votes on the sheet"), (WRONG_KEY, (), "absent", "Wrong: a key; the seats are right")):
+                (ZURICH.sheet, (), "alone", "the seats fit the votes on the sheet"),
+                (WRONG_KEY, (), "absent", "Wrong: a key; the seats are right")):
             with self.subTest(said, files=len(others)):
                 text = self.printed(sheet, *others, proved=proved)
                 self.assertNotRegex(text, "Signature|Place|Date")
@@ -50,7 +52,7 @@ class Paper(Case):
 
     def test_before_there_are_seats(self):
         """On one page, with the files and without what is for a screen."""
-        for setup, held in ((EXAMPLE_SETUP, FEW), LARGEST.files()[1:]):
+        for setup, held in ((SETUP, FEW), LARGEST.files()[1:]):
             text = self.printed(None, setup, held)
             self.assertIn("Computed by this page, not proved.", text)
             self.assertIn("The files that were opened", text)

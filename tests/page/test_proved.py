@@ -10,7 +10,7 @@ import firefox
 import model
 import program
 import sheets
-from case import EXAMPLE, EXAMPLE_SETUP, LARGEST, OTHERS, ROWS, WRONG, Case
+from case import EXAMPLE, SETUP, LARGEST, OTHERS, ROWS, WRONG, Case
 from cases import turns
 from places import CASES
 from program import utf8
@@ -98,7 +98,7 @@ class Proved:
             self.bar_is(state, heading)
             self.assertTrue(page.text("#proved p").startswith(f"It says that the sheet is {state}. "), page.text("#proved p"))
             shown = page.one("#proved pre").get_property("textContent").encode()
-            self.assertEqual((int(state == "wrong"), shown), program.answer(*utf8(EXAMPLE_SETUP, sheet, ROWS)))
+            self.assertEqual((int(state == "wrong"), shown), program.answer(*utf8(SETUP, sheet, ROWS)))
 
 
 class Chromium(Proved, Case):
@@ -119,7 +119,7 @@ class Chromium(Proved, Case):
         self.same(*(([sheet], setup, rows) for _, sheet, setup, held in found for rows in {None, held}))
 
     def test_each_change_of_a_sheet(self):
-        self.same((list(changes(EXAMPLE)), EXAMPLE_SETUP, None))
+        self.same((list(changes(EXAMPLE)), SETUP, None))
 
     def test_changes_of_other_sheets(self):
         chance = random.Random(SEED)
@@ -131,7 +131,7 @@ class Chromium(Proved, Case):
         election = model.made_up(3, 6, 5, 60)
         rows = ROWS, ROWS.replace("525", "526"), ROWS.replace("3,3,1,50", "3,3,2,withdrawn"), ROWS.replace("1,1,1,525\n", "")
         self.same(([election.sheet(), election.sheet(part=[True] * 3 + [False, True])], election.setup(), election.held()),
-                  *(([EXAMPLE], EXAMPLE_SETUP, held) for held in rows))
+                  *(([EXAMPLE], SETUP, held) for held in rows))
 
     def test_what_it_refuses(self):
         """Set-ups of the cases, rows, and texts that are too long."""
@@ -141,15 +141,15 @@ class Chromium(Proved, Case):
         rows = [ROWS.replace(old, new) for old, new in (
             ("1,3,1,175", "1,2,1,175"), ("1,2,1,300", "1,4,1,300"), ("3,3,", "9,3,"), ("525", "x"), ("525", "1000000001"),
             ("525", "4294967296"), ("\n", "\r\n"))]
-        self.same_answers([*((setup, EXAMPLE.encode(), None) for setup in setups), *(utf8(EXAMPLE_SETUP, EXAMPLE, held) for held in [*rows, ""])])
+        self.same_answers([*((setup, EXAMPLE.encode(), None) for setup in setups), *(utf8(SETUP, EXAMPLE, held) for held in [*rows, ""])])
         sheet, *others = LARGEST.files()
         self.same_answers([utf8(*it) for it in (
-            (others[0], sheet, others[1]), (EXAMPLE_SETUP, "x" * 300_000, None), (EXAMPLE_SETUP, EXAMPLE * 700, None), ("#" * 1_048_577, EXAMPLE, None),
-            ("[" * 500_000, EXAMPLE, None), (EXAMPLE_SETUP, "", ""), ("", "", None), (EXAMPLE_SETUP, "1 sheet " + "9" * 270_000, ROWS))])
+            (others[0], sheet, others[1]), (SETUP, "x" * 300_000, None), (SETUP, EXAMPLE * 700, None), ("#" * 1_048_577, EXAMPLE, None),
+            ("[" * 500_000, EXAMPLE, None), (SETUP, "", ""), ("", "", None), (SETUP, "1 sheet " + "9" * 270_000, ROWS))])
 
     def test_the_verdict_is_saved(self):
         sheet = EXAMPLE.encode().replace(b"Mitte", b"Mitt\xe9")
-        page = self.page.sheet(sheet, EXAMPLE_SETUP)
+        page = self.page.sheet(sheet, SETUP)
         page.run("""
             const first = URL.createObjectURL;
             URL.createObjectURL = (blob) => {
@@ -159,7 +159,7 @@ class Chromium(Proved, Case):
         """)
         page.click("#save")
         page.wait("return window.saved !== undefined")
-        self.assertEqual(bytes(page.run("return window.saved")), program.answer(EXAMPLE_SETUP.encode(), sheet)[1])
+        self.assertEqual(bytes(page.run("return window.saved")), program.answer(SETUP.encode(), sheet)[1])
 
 
 class Firefox(Proved, Chosen, Case):
@@ -167,7 +167,7 @@ class Firefox(Proved, Chosen, Case):
     starts = staticmethod(lambda language: firefox.started())
 
     def test_how_far_the_count_is(self):
-        page = self.page.choose(("setup.toml", EXAMPLE_SETUP), ("held.csv", FEW))
+        page = self.page.choose(("setup.toml", SETUP), ("held.csv", FEW))
         self.assertEqual((page.text("#verdict"), page.text("#votes-so-far tbody tr")),
                          ("i 4 of 9 returns are in", "1 A 765 61.69% ✓ reached in Nord, Mitte"))
         for is_now, should in zip(page.run(WIDTHS, "#held-so-far"), [1, 1 / 3, 0]):

@@ -5,7 +5,7 @@ import subprocess
 
 import browser
 import seals
-from case import EXAMPLE, EXAMPLE_SETUP, OTHERS, ROWS, WRONG, Case, changed
+from case import EXAMPLE, SETUP, OTHERS, ROWS, WRONG, Case, changed
 from places import TOP
 
 
@@ -18,9 +18,10 @@ class Shown(Case):
         self.assertEqual(self.page.text("#proved"), "")
         page = self.page.choose(("sheet.txt", EXAMPLE))
         self.assertEqual((page.state(), page.text("#proved p")), ("unsure", "It did not run: it needs the set-up."))
-        for name, text, state in (("setup.toml", EXAMPLE_SETUP, "unsure"), ("held.csv", ROWS, "right"), ("sheet.txt", WRONG, "wrong"),
-                                  ("sheet.txt", EXAMPLE, "right"), ("held.csv", ROWS.replace("525", "526"), "mismatch"), ("held.csv", ROWS, "right"),
-                                  ("setup.toml", EXAMPLE_SETUP.replace("5000", "5001"), "mismatch")):
+        for name, text, state in (("setup.toml", SETUP, "unsure"), ("held.csv", ROWS, "right"), ("sheet.txt", WRONG, "wrong"),
+                                  ("sheet.txt", EXAMPLE, "right"), ("held.csv", ROWS.replace("525", "526"), "mismatch"),
+                                  ("held.csv", ROWS, "right"),
+                                  ("setup.toml", SETUP.replace("5000", "5001"), "mismatch")):
             page.choose((name, text))
             end = {"right": "no other seats follow from these votes", "unsure": "these votes; that they were returned is not checked"}
             self.is_now(state, end.get(state, "sheet wrong"))
@@ -32,7 +33,7 @@ class Shown(Case):
             window.late = [];
             asked = (texts) => new Promise((is) => { first(texts).then((answer) => window.late.push(() => is(answer))); });
         """)
-        page.give(("setup.toml", EXAMPLE_SETUP), ("sheet.txt", EXAMPLE))
+        page.give(("setup.toml", SETUP), ("sheet.txt", EXAMPLE))
         page.wait("return window.late.length === 1")
         page.give(("wrong.txt", WRONG))
         page.wait("return window.late.length === 2")
@@ -47,8 +48,8 @@ class Shown(Case):
         self.assertEqual((*page.bar(), page.run("return document.body.dataset.proved")), ("right", "unsure", "runs"))
 
     def test_what_it_refuses(self):
-        for files, said, why in (((EXAMPLE, EXAMPLE_SETUP.replace("house = 10", "house = 401")), "setup range house", "setup range, house"),
-                                 ((EXAMPLE, EXAMPLE_SETUP, ROWS.replace("1,3,1,175", "1,2,1,175")), "held twice", "held twice")):
+        for files, said, why in (((EXAMPLE, SETUP.replace("house = 10", "house = 401")), "setup range house", "setup range, house"),
+                                 ((EXAMPLE, SETUP, ROWS.replace("1,3,1,175", "1,2,1,175")), "held twice", "held twice")):
             page = self.page.sheet(*files)
             self.is_now("unsure", said)
             self.assertTrue(page.text("#proved p").startswith("It did not run. It reports"))
@@ -104,14 +105,14 @@ class Failing(Case):
                 self.fails_with(why, before=before)
 
     def test_rows_that_are_too_long(self):
-        page = self.page.sheet(EXAMPLE, EXAMPLE_SETUP, ROWS + "\n" * 1_048_577)
+        page = self.page.sheet(EXAMPLE, SETUP, ROWS + "\n" * 1_048_577)
         self.assertEqual(page.state(), "unsure")
         self.assertIn("the returns are too long", page.text("#proved"))
 
     def test_without_a_worker_it_runs_in_the_page(self):
         self.another(changed(self.path.read_text(), "worker-src blob:", "worker-src 'none'")).sheet(EXAMPLE, *OTHERS)
         self.bar_is("right", "✓ Right")
-        page = self.page.sheet(WRONG, EXAMPLE_SETUP, before="Worker = class { constructor() { throw new Error('none'); } }")
+        page = self.page.sheet(WRONG, SETUP, before="Worker = class { constructor() { throw new Error('none'); } }")
         self.assertEqual(page.state(), "wrong")
         self.assertTrue(page.text("#proved pre").endswith("sheet wrong"))
 

@@ -3,7 +3,7 @@ import itertools
 import re
 
 import model
-from case import EXAMPLE, EXAMPLE_SETUP, LARGEST, OTHERS, ROWS, WRONG_KEY, Case, changed
+from case import EXAMPLE, SETUP, LARGEST, OTHERS, ROWS, WRONG_KEY, Case, changed
 from sheets import ZURICH
 
 TURNED, HEBREW = "\u202eX 11", "\u05d0\u05d1 11"
@@ -43,12 +43,13 @@ class Sight(Case):
         other = changed(EXAMPLE, "votes 525", "votes 526")
         for (name, seen), old in itertools.product(((TURNED, "<U+202E>X 11"), (HEBREW, HEBREW)), ("Nord", "1.000000 A")):
             sheet = changed(EXAMPLE, old, f"1.000000 {name}" if old != "Nord" else name)
-            for files in ((sheet,), (sheet, EXAMPLE_SETUP), (sheet, EXAMPLE_SETUP.replace('"A"', f'"{name}"'), ROWS)):
+            for files in ((sheet,), (sheet, SETUP), (sheet, SETUP.replace('"A"', f'"{name}"'), ROWS)):
                 page = self.page.show(*files)
-                page.run("takeFiles([opened('other', new TextEncoder().encode(arguments[0]))])", other)
                 for css in ("#seats tbody th button", "#seats thead button", "#seats tbody td button"):
                     page.run("document.querySelector(arguments[0]).click()", css)
                     self.assertEqual(self.outside(seen), [])
+                page.run("takeFiles([opened('other', new TextEncoder().encode(arguments[0]))])", other)
+                self.assertEqual(self.outside(seen), [])
                 self.assertNotIn("\u202e", page.one("body").get_attribute("outerHTML"))
 
     def test_a_name_turns_no_number_round(self):
@@ -108,7 +109,8 @@ class Sight(Case):
 
     def test_nothing_is_wider_than_a_phone(self):
         self.has_screen(360, 740, 2, True)
-        for files in ((ZURICH.sheet,), LARGEST.files()[:1], (WRONG_KEY,), (None, *OTHERS), (None, *ZURICH[1:]), (None, *LARGEST.files()[1:])):
+        largest = LARGEST.files()
+        for files in (ZURICH[:1], largest[:1], (WRONG_KEY,), (None, *OTHERS), (None, *ZURICH[1:]), (None, *largest[1:])):
             for language in ("en", "de"):
                 self.page.speak(language)
                 self.assertLessEqual(self.page.show(*files).run("return document.documentElement.scrollWidth"), 360)
@@ -175,5 +177,5 @@ class Sight(Case):
             self.readable("li", "#ticks .hint, #ticks .mark")
             self.page.show("1 refused nogroup\n")
             self.readable("#bar", "#verdict", "#verdict .mark", "#why p", "#kind .kind")
-            self.page.show(changed(EXAMPLE, "voters 230 seats 5", "voters 230 seats 6"), EXAMPLE_SETUP)
+            self.page.show(changed(EXAMPLE, "voters 230 seats 5", "voters 230 seats 6"), SETUP)
             self.readable("body", ".legend .said.wrong")

@@ -8,7 +8,7 @@ import tempfile
 import pytest
 
 import model
-from case import EXAMPLE, EXAMPLE_SETUP, ROWS, Case, changed
+from case import EXAMPLE, SETUP, ROWS, Case, changed
 from places import PROGRAM
 
 FEW = "".join(ROWS.splitlines(keepends=True)[:5])
@@ -71,7 +71,7 @@ class Night:
 
 
 class SoFar(Case):
-    def opened(self, held=FEW, setup=EXAMPLE_SETUP, sheet=None):
+    def opened(self, held=FEW, setup=SETUP, sheet=None):
         return self.page.show(sheet, setup, held)
 
     def test_a_set_up_and_returns(self):
@@ -93,7 +93,8 @@ class SoFar(Case):
         page.speak("de")
         self.assertEqual(page.seen("#verdict", "#so-far h2", "#so-far p", "#so-far caption"), [
             ["i 4 von 9 Meldungen sind eingegangen"], ["Wie weit die Auszählung ist"],
-            ["4 von 9 Meldungen sind eingegangen. Von dieser Seite berechnet, nicht bewiesen. Die fehlenden Meldungen können alles noch ändern."],
+            ["4 von 9 Meldungen sind eingegangen. Von dieser Seite berechnet, nicht bewiesen. Die fehlenden Meldungen können alles noch "
+             "ändern."],
             ["Meldungen nach Wahlkreis", "Stimmen nach Gruppe"]])
         self.assertEqual(page.texts("#votes-so-far tbody tr")[1], "2 B 300 24.19 % ✓ erreicht in Nord")
 
@@ -114,16 +115,17 @@ class SoFar(Case):
     def test_the_whole_folder(self):
         """Of all that is published together, the tables and the page itself are left, with a sheet and without one."""
         tables = [(name, head + "1,1,525\n") for name, head in TABLES]
-        rest = ("index.html", self.page.path.read_text()), ("setup.toml", EXAMPLE_SETUP)
-        page = self.page.choose(*sorted((*rest, ("held.csv", FEW), ("no-seats", NO_SEATS), *(it for it in tables if it[0].startswith("vote")))))
+        rest = ("index.html", self.page.path.read_text()), ("setup.toml", SETUP)
+        before = [it for it in tables if it[0].startswith("vote")]
+        page = self.page.choose(*sorted((*rest, ("held.csv", FEW), ("no-seats", NO_SEATS), *before)))
         self.assertEqual((page.state(), page.texts(".had .file")), ("answer", ["no-seats", "setup.toml", "held.csv"]))
         self.assertIn("4 of 9 returns are in.", page.text("#so-far"))
         page.open().choose(*sorted((*rest, ("held.csv", ROWS), ("sheet.txt", EXAMPLE), *tables)))
         self.assertEqual((page.state(), page.texts(".had .file")), ("right", ["sheet.txt", "setup.toml", "held.csv"]))
 
     def test_nothing_where_there_is_a_sheet_or_a_file_is_not_read(self):
-        for files in ((FEW, EXAMPLE_SETUP, EXAMPLE), (FEW, EXAMPLE_SETUP, EXAMPLE[:300]), (None, EXAMPLE_SETUP), (FEW, None),
-                      (FEW, EXAMPLE_SETUP + "x\n"), (FEW + "x\n", EXAMPLE_SETUP)):
+        for files in ((FEW, SETUP, EXAMPLE), (FEW, SETUP, EXAMPLE[:300]), (None, SETUP), (FEW, None),
+                      (FEW, SETUP + "x\n"), (FEW + "x\n", SETUP)):
             with self.subTest(files):
                 self.assertEqual(self.opened(*files).text("#so-far"), "")
 
@@ -134,7 +136,7 @@ class SoFar(Case):
         self.assertIn("9 of 9 returns are in.", self.opened(ROWS).text("#so-far"))
         self.assertNotIn(OPEN, page.text("#so-far"))
         # A list that was withdrawn has no votes, and its return is held; for one that does not stand no return is due.
-        self.opened(changed(FEW, "1,3,1,175", "1,3,2,withdrawn"), changed(EXAMPLE_SETUP, '"C"\nstands = [1, 2, 3]', '"C"\nstands = [1]'))
+        self.opened(changed(FEW, "1,3,1,175", "1,3,2,withdrawn"), changed(SETUP, '"C"\nstands = [1, 2, 3]', '"C"\nstands = [1]'))
         self.assertEqual(page.texts("#held-so-far td"), ["3 of 3", "1 of 2", "0 of 2", "4 of 7"])
         self.assertIn("C 0 0.00% not reached", page.text("#votes-so-far"))
         # Of the canton, and of many constituencies.
@@ -146,10 +148,11 @@ class SoFar(Case):
 
     def test_an_older_election_is_said_to_be_another(self):
         """Its sheet can be opened first. It does not match the set-up, and is not called wrong for that."""
-        self.assertIn("To compare with an older election, open its sheet first, and then the new one with its files.", self.page.text(".drop"))
+        self.assertIn("To compare with an older election, open its sheet first, and then the new one with its files.",
+                      self.page.text(".drop"))
         older = model.Election(8, [4000, 3000, 1000], [[420, 300, 90], [240, 330, 30], [90, 60, 50]], names=["Nord", "Mitte", "West"],
                                groups=["A", "B", "C"]).sheet(commands=5)
-        page = self.page.choose(("older", older)).choose(("sheet.txt", EXAMPLE), ("setup.toml", EXAMPLE_SETUP), ("held.csv", ROWS))
+        page = self.page.choose(("older", older)).choose(("sheet.txt", EXAMPLE), ("setup.toml", SETUP), ("held.csv", ROWS))
         self.assertEqual(page.state(), "right")
         self.assertIn("The sheet before does not match the set-up (line 2), as that of another election does not.", page.text("#changes"))
         self.assertEqual(page.texts("#changes .said.wrong"), [])

@@ -4,9 +4,8 @@ import re
 
 from selenium.webdriver.common.keys import Keys
 
-from case import EXAMPLE, EXAMPLE_SETUP, HOSTILE, LARGEST, OTHER_WORDS, ROWS, WRONG, Case, changed
+from case import EXAMPLE, SETUP, HOSTILE, LARGEST, OTHER_WORDS, ROWS, WRONG, Case, changed
 from sheets import ZURICH
-
 
 
 class Use(Case):
@@ -25,7 +24,7 @@ class Use(Case):
         self.assertEqual(page.all("img, b, iframe, [onerror]"), [])
         self.fails(None, 1, "it does not belong here", f"{HOSTILE}\n")
         self.assertIn(HOSTILE, page.text(".fault pre"))
-        page.show(None, EXAMPLE_SETUP.replace('"A"', f'"{HOSTILE}"').replace('"Nord"', f'"{HOSTILE}"'), ROWS)
+        page.show(None, SETUP.replace('"A"', f'"{HOSTILE}"').replace('"Nord"', f'"{HOSTILE}"'), ROWS)
         for css in ("#held-so-far", "#votes-so-far"):
             self.assertIn(HOSTILE, page.text(css))
         self.assertEqual(page.all("img, [onerror]"), [])
@@ -92,8 +91,9 @@ class Use(Case):
         self.page.wait("return document.body.dataset.shown !== '' && document.body.dataset.proved !== 'runs'")
 
     def test_files_that_are_dropped_and_can_not_be_read(self):
-        """No sheet stays green beside a file of which the browser gives no bytes, as of a folder; once it is removed the one before is back."""
-        page = self.page.choose(("setup.toml", EXAMPLE_SETUP), ("held.csv", ROWS))
+        """No sheet stays green beside a file of which the browser gives no bytes, as of a folder; once it is removed the one before is
+        back."""
+        page = self.page.choose(("setup.toml", SETUP), ("held.csv", ROWS))
         self.drop("a sheet", EXAMPLE)
         self.bar_is("right", "✓ Right")
         page.run("""
@@ -159,7 +159,8 @@ class Use(Case):
         for language, choose, names in (
                 ("de", "Wählen Sie das Resultatblatt. Fügen Sie, wenn vorhanden, die Grunddaten und die Meldungen hinzu.",
                  ["Resultatblatt", "Grunddaten", "Meldungen"]),
-                ("en", "Choose the sheet. If you have them, add the set-up file and the file of returns.", ["Sheet", "Set-up file", "File of returns"])):
+                ("en", "Choose the sheet. If you have them, add the set-up file and the file of returns.",
+                 ["Sheet", "Set-up file", "File of returns"])):
             page.speak(language)
             self.assertEqual(page.seen("#choose", ".drop dt"), [[choose], names])
             self.assertEqual(page.run("return document.documentElement.lang"), language)
@@ -189,9 +190,10 @@ class German(Case):
             ["! Nicht vollständig geprüft: Die Sitze passen zu seinen Stimmen"]])
         self.assertIn("Ohne Grunddaten sind Sitzzahl, Namen, Personen, Quorum und Listen nicht geprüft", page.text("#ticks"))
         self.assertNotIn("Set-up", page.text("body"))
-        page.show(changed(EXAMPLE, "205.000000", "210.000000").replace("votes 1000", "votes 1001"), EXAMPLE_SETUP).proved("wrong")
+        page.show(changed(EXAMPLE, "205.000000", "210.000000").replace("votes 1000", "votes 1001"), SETUP).proved("wrong")
         self.assertEqual(page.seen(".had .setup .what", "#proved h2"), [["Grunddaten"], ["Die bewiesene Prüfung"]])
-        for said in ("525 / (210.000000 × 1.000000) = 2.5 liegt auf einem Halben", "die Stimmen seiner Listen ergeben 1’000 und nicht 1’001"):
+        for said in ("525 / (210.000000 × 1.000000) = 2.5 liegt auf einem Halben",
+                     "die Stimmen seiner Listen ergeben 1’000 und nicht 1’001"):
             self.assertIn(said, page.texts(".fault .reason"))
         self.assertNotRegex(page.text("body"), r"[{}]|undefined|null")
         page.show("1 refused tied seats\n")

@@ -4,7 +4,7 @@ import re
 
 import model
 from browser import By
-from case import EXAMPLE, EXAMPLE_SETUP, OTHERS, ROWS, Case, changed
+from case import EXAMPLE, SETUP, OTHERS, ROWS, Case, changed
 from sheets import ZURICH
 
 FEW = model.Election(10, [1000], [[600, 370, 30]]).sheet()
@@ -82,7 +82,7 @@ class Wrong(Case):
     def test_totals(self):
         """Seats that all round, but do not add up as those of their constituency and their group."""
         page = self.fails("lists", 5, "the seats of its lists make 6, and not 5", changed(EXAMPLE, "205.000000", "186.000000")
-                          .replace("voters 60 seats 1", "voters 60 seats 2", 1), EXAMPLE_SETUP)
+                          .replace("voters 60 seats 1", "voters 60 seats 2", 1), SETUP)
         self.assertEqual(page.failing(), ["lists"])
         self.assertEqual(page.texts(".fault .reason")[1:], ["the seats of its lists make 5, and not 4"])
 
@@ -105,10 +105,10 @@ class Wrong(Case):
 
     def test_a_list_that_vanished(self):
         without = changed(EXAMPLE, "list 1 3 votes 175 voters 35 seats 1\n", "")
-        self.fails("form", 13, "before it the line “list 1 3 ..” is missing", without, EXAMPLE_SETUP)
+        self.fails("form", 13, "before it the line “list 1 3 ..” is missing", without, SETUP)
         self.fails("votes", 5, "the votes of its lists make 825", without)
         without = changed(EXAMPLE, "list 3 3 votes 50 voters 25 seats 0\n", "")
-        self.fails("form", 19, "before it the line “list 3 3 ..” is missing", without, EXAMPLE_SETUP)
+        self.fails("form", 19, "before it the line “list 3 3 ..” is missing", without, SETUP)
         whole = model.made_up(3, 6, 5, 60)
         setup = whole.setup()
         whole.votes[5][1] = None
@@ -135,9 +135,9 @@ class Others(Case):
     def test_another_set_up_and_other_returns(self):
         for part, line, old, new, reason in SET_UPS:
             with self.subTest(new):
-                self.fails(part, line, reason, EXAMPLE, changed(EXAMPLE_SETUP, old, new), state="mismatch")
+                self.fails(part, line, reason, EXAMPLE, changed(SETUP, old, new), state="mismatch")
         for votes, made in (("301", "301"), ("withdrawn", "0")):
-            self.fails("votes", 12, f"the returns make {made} votes", EXAMPLE, EXAMPLE_SETUP,
+            self.fails("votes", 12, f"the returns make {made} votes", EXAMPLE, SETUP,
                        changed(ROWS, "1,2,1,300", f"1,2,1,{votes}"), state="mismatch")
 
     def test_two_sheets(self):
