@@ -42,7 +42,8 @@ KINDS = (
     ("✗ Wrong: a key; the seats are right", ["Line 3 of the sheet: the key should be 10,000/10, and not 10,000/9", NO_CHANGE], [],
      changed(EXAMPLE, "10000/10", "10000/9"), *OTHERS),
     ("✗ Wrong: a sum of votes; the seats are right", [
-        "Line 5 of the sheet: Nord: the votes of its lists make 1,000, and not 999", NO_CHANGE], [], changed(EXAMPLE, "votes 1000", "votes 999"), *OTHERS),
+        "Line 5 of the sheet: Nord: the votes of its lists make 1,000, and not 999", NO_CHANGE], [],
+     changed(EXAMPLE, "votes 1000", "votes 999"), *OTHERS),
     ("✗ Wrong: who takes part; the seats are right", [
         "Line 10 of the sheet: C: by its votes this group takes part (quorum yes); the sheet says no", NO_CHANGE], [],
      changed(EXAMPLE, "quorum yes voters 70", "quorum no voters 70"), *OTHERS),

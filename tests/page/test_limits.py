@@ -68,7 +68,7 @@ class Limits(Case):
         """, [*(it[-1] for it in cases), *may_be], setup)
         for (line, reason, text), fault in zip(cases, found):
             with self.subTest(text[:400]):
-                self.assertEqual(fault and fault[0], line)
+                self.assertEqual(fault and fault[0], line, reason)
                 self.assertIn(reason, fault[1])
         self.assertEqual(found[len(cases):], [None] * len(may_be))
 

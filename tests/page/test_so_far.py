@@ -2,12 +2,14 @@
 import csv
 import pathlib
 import random
+import re
 import subprocess
 import tempfile
 
 import pytest
 
 import model
+import sheets
 from case import EXAMPLE, SETUP, ROWS, Case, changed
 from places import PROGRAM
 
@@ -16,7 +18,7 @@ NO_SEATS = "zhcount: refused novotes 3\n"
 TIED = ("zhcount: refused tied lower 2 1\nthe lot decides between distributions that differ in these lists\n1 1 0 1\n2 1 0 1\n"
         "all other lists have the same seats in each\n3 1 2\n")
 NOT_PROVED = "Computed by this page, not proved."
-NIGHTS = (0, 1, 2, 3, 5)
+NIGHTS = 6
 OPEN = "The missing returns can still change all of it."
 # How much of their whole the bars of a table are.
 WIDTHS = """
@@ -33,41 +35,30 @@ TABLES = [(name, f"{head}\n") for name, head in (
     ("votes.csv", "constituency,group,votes,constituency_votes,reaches_quorum,held,due,commands,constituency_name,group_name"))]
 
 
-class Night:
-    """An election made up, with lists that do not stand, and a count of it that is not at its end: some returns are missing, and some
-    lists are withdrawn. In that of seed 0 there is no return yet."""
+def nights():
+    """The set-up and the rows of counts of elections of the repository that are not at their end: some returns are missing, and some lists
+    are withdrawn. The first count has no return yet."""
+    chance = random.Random(72)
+    found = [*dict.fromkeys((setup, held) for _, _, setup, held in sheets.all_sheets() if held)]
+    with_quorum = [it for it in found if "canton_quorum" in it[0]]
+    for at in range(NIGHTS):
+        setup, held = chance.choice(with_quorum if at % 2 else found)
+        rows = [(place, chance.choice([votes] * 6 + ["withdrawn"])) for place, votes in re.findall(r"^(\d+,\d+),\d+,(\d+)$", held, re.M)]
+        yield setup, [f"{place},1,{votes}" for place, votes in rows if at > 0 and chance.random() < 0.8]
 
-    def __init__(self, seed):
-        chance = random.Random(seed)
-        rows, columns = chance.randint(2, 5), chance.randint(2, 6)
-        within = [*range(1, rows + 1), *(chance.randint(1, rows) for _ in range(4))]
-        quorum = chance.choice([None, 5, 49])
-        stands = [sorted(chance.sample(range(1, rows + 1), chance.randint(1, rows))) for _ in range(columns)]
-        lines = [f"version = {2 if quorum else 1}", "house = 60", *([f"canton_quorum = {quorum}"] if quorum else [])]
-        lines += [f'[[constituency]]\nname = "District {d}"\npersons = {1000 + d}' for d in range(1, rows + 1)]
-        lines += [f'[[municipality]]\nname = "Town {m}"\nconstituency = {d}' for m, d in enumerate(within, 1)]
-        lines += [f'[[group]]\nname = "Group {g}"\nstands = {it}' for g, it in enumerate(stands, 1)]
-        self.setup = "\n".join(lines) + "\n"
-        self.held = "municipality,list,number,votes\n"
-        for place in ((m, g) for m, d in enumerate(within, 1) for g, it in enumerate(stands, 1) if d in it and seed > 0):
-            kind = chance.random()
-            votes = "withdrawn" if kind < 0.15 else chance.choice([0, 1, 5, 20, 100, 400])
-            self.held += "%d,%d,1,%s\n" % (*place, votes) if kind < 0.8 else ""
 
-    def counted(self):
-        """The votes so far of lists and of groups, by the program."""
-        with tempfile.TemporaryDirectory() as room:
-            def zhcount(task, *arguments, lines=""):
-                return subprocess.run([PROGRAM, task, "--setup", "setup", "--disk", "disk", *arguments], cwd=room, input=lines,
-                                      stdout=subprocess.PIPE, stderr=subprocess.DEVNULL, text=True, check=True).stdout
-            pathlib.Path(room, "setup").write_text(self.setup)
-            zhcount("format")
-            rows = [row.split(",") for row in self.held.splitlines()[1:]]
-            answers = zhcount("run", lines="".join(
-                f"1 withdraw {m} {g} {number}\n" if votes == "withdrawn" else f"1 return {m} {g} {number} {votes}\n"
-                for m, g, number, votes in rows))
-            assert answers.count(" stored ") == len(rows), answers
-            return [list(csv.DictReader(zhcount("votes", "--of", of).splitlines())) for of in ("lists", "groups")]
+def counted(setup, rows):
+    """The votes so far of lists and of groups, by the program."""
+    with tempfile.TemporaryDirectory() as room:
+        def zhcount(task, *arguments, lines=""):
+            return subprocess.run([PROGRAM, task, "--setup", "setup", "--disk", "disk", *arguments], cwd=room, input=lines,
+                                  stdout=subprocess.PIPE, stderr=subprocess.DEVNULL, text=True, check=True).stdout
+        pathlib.Path(room, "setup").write_text(setup)
+        zhcount("format")
+        lines = [f"1 return {row}\n".replace(",", " ") for row in rows]
+        answers = zhcount("run", lines="".join(re.sub("return (.*) withdrawn", r"withdraw \1", line) for line in lines))
+        assert answers.count(" stored ") == len(rows), answers
+        return [list(csv.DictReader(zhcount("votes", "--of", of).splitlines())) for of in ("lists", "groups")]
 
 
 class SoFar(Case):
@@ -160,22 +151,19 @@ class SoFar(Case):
         page.choose(("wrong", changed(EXAMPLE, "voters 105 seats 3", "voters 105 seats 2"))).click("#files > p button")
         self.assertEqual(page.texts("#changes .said.wrong"), ["The sheet before is wrong at line 11."])
 
-    def sums(self, setup, held):
-        return self.page.run("""
-            const setup = readSetup(arguments[0]);
-            const { constituencies, groups, votes } = countSoFar(setup, readHeld(arguments[1], setup));
-            return [constituencies.map(({ held, due }) => [held, due]), `${votes}`,
-              groups.map(({ name, votes, reaches, reachedIn }) => [name, `${votes}`, reaches ? 'yes' : 'no', reachedIn])];
-        """, setup, held)
-
     @pytest.mark.usefixtures("program")
     def test_its_sums_are_those_of_the_program(self):
         """Returns by constituency, votes by group, and who reaches the quorum, where and at all; also before the first return."""
         kinds = set()
-        for night in map(Night, NIGHTS):
-            lists, groups = night.counted()
-            with self.subTest(held=night.held, setup=night.setup):
-                constituencies, votes, shown = self.sums(night.setup, night.held)
+        for setup, rows in nights():
+            lists, groups = counted(setup, rows)
+            with self.subTest(rows=rows, setup=setup):
+                constituencies, votes, shown = self.page.run("""
+                    const setup = readSetup(arguments[0]);
+                    const { constituencies, groups, votes } = countSoFar(setup, readHeld(arguments[1], setup));
+                    return [constituencies.map(({ held, due }) => [held, due]), `${votes}`,
+                      groups.map(({ name, votes, reaches, reachedIn }) => [name, `${votes}`, reaches ? 'yes' : 'no', reachedIn])];
+                """, setup, "\n".join(["municipality,list,number,votes", *rows, ""]))
                 for d, pair in enumerate(constituencies, 1):
                     own = [it for it in lists if it["constituency"] == str(d)]
                     self.assertEqual(pair, [sum(int(it[key]) for it in own) for key in ("held", "due")])
@@ -183,6 +171,6 @@ class SoFar(Case):
                 reached = {it["group"]: [its["constituency_name"] for its in lists
                                          if its["group"] == it["group"] and its["reaches_quorum"] == "yes"] for it in groups}
                 self.assertEqual(shown, [[it["group_name"], it["votes"], it["reaches_quorum"], reached[it["group"]]] for it in groups])
-                kinds |= {("withdrawn" in night.held, reaches, len(where) > 0) for _, _, reaches, where in shown}
+                kinds |= {("withdrawn" in "".join(rows), reaches, len(where) > 0) for _, _, reaches, where in shown}
         # There were lists withdrawn, groups that reach no quorum, one in a constituency, and that of the canton alone.
         self.assertLessEqual({(True, "no", False), (True, "yes", True), (True, "yes", False)}, kinds)
