@@ -16,30 +16,6 @@ REFUSALS = (("tied seats", "The seats of the constituencies are tied"), ("noseat
             ("novotes 2", "no votes in constituency 2 (Mitte)"), ("tied lower 2 31", "group 31 in constituency 2 (Mitte) lies on a half"),
             ("exhausted", "search for divisors ended without any"), ("notclosed 512", "Municipality 512 is still open"),
             ("memory", "too little memory"), ("reopen-disk", "has to be opened again"))
-# A set-up with what TOML has and this page does not understand.
-SPREAD = SETUP.replace("[1, 2, 3]", "[1,\n2, 3]", 1)
-OF_SHEET, OF_VOTES, OF_ONE, DIFFER = ("! Not fully checked: the seats fit the votes on the sheet",
-                                      "! Not fully checked: right for the votes on the sheet",
-                                      "! Not fully checked: right by one check of two", "✗ The two checks differ")
-# The colour of the bar, its heading, what is said below it, what the proved check says, and the files.
-BARS = (
-    ("unsure", OF_ONE, "The proved check did not run: no memory", "failed", EXAMPLE, *OTHERS),
-    ("unsure", OF_ONE, "This copy of the page has no proved check.", "absent", EXAMPLE, *OTHERS),
-    ("unsure", "! The proved check is at work", "own check says: right", "runs", EXAMPLE, *OTHERS),
-    ("right", "✓ Right", "these are the votes of all 9 returns.", "right", EXAMPLE, *OTHERS),
-    ("wrong", DIFFER, "own check says right, the proved check says wrong", "wrong", EXAMPLE, *OTHERS),
-    ("wrong", DIFFER, "own check says wrong at line 2, the proved check says right", "right", changed(EXAMPLE, "house 10", "house 11"),
-     SETUP),
-    ("wrong", "✗ Wrong by the proved check", "It looked at more than this page’s own check could.", "wrong", EXAMPLE, SPREAD, ROWS),
-    ("unsure", OF_VOTES, "✓ Set-up opened ! Not opened: the returns", "right", EXAMPLE, SETUP),
-    ("unsure", OF_VOTES, "! Returns not understood: line 11 The votes are compared with nothing.", "right", EXAMPLE, SETUP, ROWS + "x\n"),
-    ("unsure", OF_SHEET, "! Returns opened, but not compared To compare them, the page needs the set-up.", "alone", EXAMPLE, None, ROWS),
-    ("unsure", OF_SHEET, "! Set-up not understood: line 23 Number of seats, names, persons, quorum and lists are not checked by this page. "
-     "! Returns opened, but not compared To compare them, the page needs the set-up. ✓ Both checks say: right", "right", EXAMPLE, SPREAD,
-     ROWS),
-    ("unsure", OF_SHEET, "! Not opened: the set-up Without the set-up, number of seats, names, persons, quorum and lists are not checked: "
-     "a list too many or too few would not show. ! Not opened: the returns Whether these are the votes that were reported is not checked. "
-     "! One check of two says: right The proved check needs the set-up.", "alone", EXAMPLE))
 
 
 class Bar(Case):
@@ -68,32 +44,11 @@ class Bar(Case):
                 self.assertEqual(said["heading"]["key"] == "barDiffer",
                                  differ and (own == "wrong" or is_read and one["rows"]["is"] in ("compared", "none")))
 
-    def test_what_it_says(self):
-        """By what the two checks say, and what was not opened or not understood."""
-        for colour, heading, says, proved, *files in BARS:
-            with self.subTest(says):
-                page = self.page.show(*files).proved(proved, "no memory")
-                self.bar_is(colour, heading)
-                self.assertIn(says, " ".join(page.texts("#why, #ticks")))
-                self.assertEqual("(compared with all 9 returns)" in page.text("#parts"), files[1:] == [*OTHERS])
-
     def test_a_list_too_many_passes_alone(self):
         more = changed(changed(EXAMPLE, "25 seats 0\n", "25 seats 0\nlist 3 4 votes 0 voters - seats 0\n"), "divisor 1.000000 C\n",
                        "divisor 1.000000 C\ngroup 4 quorum no voters - seats 0 divisor - D\n")
         self.assertIn("a list too many", self.holds(more).text("#ticks"))
         self.assertEqual(self.page.show(more, SETUP).state(), "mismatch")
-
-    def test_a_sheet_alone(self):
-        page = self.page.show(EXAMPLE)
-        self.assertEqual(page.text("#why .caveat"),
-                         "You have not opened the set-up and the returns: whether these are the votes that were reported is not checked.")
-        self.assertEqual(page.text("#parliament h2"), "The parliament as this sheet has it: not fully checked")
-        for text in ("Not checked without the set-up: number of seats, quorum, names", "Not compared with the returns",
-                     "Not checked without the set-up: the persons"):
-            self.assertIn(text, page.text("#checks"))
-        self.assertNotIn("without the set-up", page.show(EXAMPLE, SETUP).text("#checks"))
-        self.assertIn("only together with the set-up", page.show(EXAMPLE, None, ROWS).text("#problems"))
-        self.assertIn("this line is not understood here", page.show(EXAMPLE, SPREAD).text(".fault .reason"))
 
     def test_returns_that_are_missing(self):
         election = model.Election(10, [5000, 3000, 2000], [[525, 300, 175], [240, 330, 30], [90, 60, 0]])

@@ -1,4 +1,5 @@
-"""What kind of wrong a sheet is, with both values, whether seats change, and what the first screen has of it."""
+"""What the page says of sheets: by what the two checks say, what was not opened, what kind of wrong a sheet is, and whether seats
+change; and what the first screen has of it."""
 import model
 import sheets
 from case import EXAMPLE, SETUP, LARGEST, OTHERS, ROWS, WRONG, WRONG_KEY, Case, changed
@@ -24,8 +25,41 @@ OTHER_SEATS, NOR = "other seats follow from the votes on the sheet: Nord, A 3, n
 OTHER_VOTES, OTHER_SETUP = "≠ Does not match the returns: other votes", "≠ Does not match the set-up"
 NO_SHEET = ("The seats are not checked, and nothing is said against",
             "It finds no whole sheet in this file. “sheet wrong” in its last line")
-# Headings, what else is said, and what is not, and the files: of sheets that are wrong themselves, of those that do not match another file,
-# and of those that can't be read.
+# A set-up with what TOML has and this page does not understand, and a sheet whose seats are tied.
+SPREAD = SETUP.replace("[1, 2, 3]", "[1,\n2, 3]", 1)
+TIED = ("1 sheet final 1\nhouse 1\nseats key 2000/2\nupper key 20/1\nconstituency 1 persons 1000 seats 1 votes 20 divisor 15.000000 X\n"
+        "group 1 quorum yes voters 10 seats 1 divisor 1.000000 A\ngroup 2 quorum yes voters 10 seats 0 divisor - B\n"
+        "list 1 1 votes 10 voters 10 seats 1\nlist 1 2 votes 10 voters 10 seats 0\nend\n")
+OF_SHEET, OF_VOTES, OF_ONE, DIFFER = (
+    "! Not fully checked: the seats fit the votes on the sheet", "! Not fully checked: right for the votes on the sheet",
+    "! Not fully checked: right by one check of two", "✗ The two checks differ")
+NO_SETUP, NO_ROWS, ROWS_ALONE = (
+    "! Not opened: the set-up Without the set-up, number of seats, names, persons, quorum and lists are not checked: a list too many or "
+    "too few would not show.", "! Not opened: the returns Whether these are the votes that were reported is not checked.",
+    "! Returns opened, but not compared To compare them, the page needs the set-up.")
+# By what the proved check says: headings, what else is said, and what is not, and the files.
+BARS = (
+    ("failed", OF_ONE, ["The proved check did not run: no memory"], [], EXAMPLE, *OTHERS),
+    ("absent", OF_ONE, ["This copy of the page has no proved check."], [], EXAMPLE, *OTHERS),
+    ("runs", "! The proved check is at work", ["own check says: right"], [], EXAMPLE, *OTHERS),
+    ("right", "✓ Right", ["these are the votes of all 9 returns.", "(compared with all 9 returns)"], ["without the set-up"],
+     EXAMPLE, *OTHERS),
+    ("wrong", DIFFER, ["own check says right, the proved check says wrong"], [], EXAMPLE, *OTHERS),
+    ("right", DIFFER, ["own check says wrong at line 2, the proved check says right"], [], changed(EXAMPLE, "house 10", "house 11"), SETUP),
+    ("wrong", "✗ Wrong by the proved check", ["It looked at more than this page’s own check could."], [], EXAMPLE, SPREAD, ROWS),
+    ("right", OF_VOTES, ["✓ Set-up opened ! Not opened: the returns"], ["(compared with"], EXAMPLE, SETUP),
+    ("right", OF_VOTES, ["! Returns not understood: line 11 The votes are compared with nothing."], [], EXAMPLE, SETUP, ROWS + "x\n"),
+    ("alone", OF_SHEET, [ROWS_ALONE, "only together with the set-up"], ["(compared with"], EXAMPLE, None, ROWS),
+    ("right", OF_SHEET, [
+        "! Set-up not understood: line 23 Number of seats, names, persons, quorum and lists are not checked by this page. "
+        f"{ROWS_ALONE} ✓ Both checks say: right", "this line is not understood here"], [], EXAMPLE, SPREAD, ROWS),
+    ("alone", OF_SHEET, [
+        f"{NO_SETUP} {NO_ROWS} ! One check of two says: right The proved check needs the set-up.",
+        "You have not opened the set-up and the returns: whether these are the votes that were reported is not checked.",
+        "The parliament as this sheet has it: not fully checked", "Not checked without the set-up: number of seats, quorum, names",
+        "Not compared with the returns", "Not checked without the set-up: the persons"], [], EXAMPLE))
+# Where it says wrong, the same: of sheets that are wrong themselves, of those that do not match another file, and of those that can't be
+# read.
 KINDS = (
     (OF_DIVISOR, [
         f"The divisor of Nord is 150.000000 on the sheet; between 200 and 210 {GIVES}.", NO_CHANGE, "2 checks fail. No seat changes.",
@@ -36,6 +70,7 @@ KINDS = (
     (OF_DIVISOR, [], [GIVES], NO_DIVISOR, *OTHERS),
     (OF_DIVISOR, [], [GIVES], NO_DIVISOR.replace("divisor 1.000000", "divisor -"), *OTHERS),
     (OF_DIVISOR, [GIVES], [], changed(EXAMPLE, "205.000000", "0.000000"), *OTHERS),
+    ("✗ Wrong: a key", ["Whether seats change is not known"], [], TIED),
     ("✗ Wrong: a number of voters; the seats are right", [
         "Line 11 of the sheet: Nord, A: 525 / 5, rounded, is 105 voters, and not 104", NO_CHANGE], [GIVES],
      changed(DIVISOR, "525 voters 105", "525 voters 104"), *OTHERS),
@@ -87,10 +122,11 @@ KINDS = (
 
 class Kinds(Case):
     def test_each_kind(self):
-        for heading, texts, others, *files in KINDS:
+        for proved, heading, texts, others, *files in [*BARS, *(("wrong", *it) for it in KINDS)]:
             with self.subTest(heading, texts=texts):
-                page = self.page.show(*files).proved("wrong")
-                self.bar_is({"✗": "wrong", "≠": "mismatch", "!": "damaged"}[heading[0]], heading)
+                page = self.page.show(*files).proved(proved, "no memory")
+                state = {"✓": "right", "✗": "wrong", "≠": "mismatch", "!": "damaged" if "file" in heading else "unsure"}[heading[0]]
+                self.bar_is(state, heading)
                 body = page.text("body")
                 for text in texts:
                     self.assertIn(text, body)
@@ -106,13 +142,6 @@ class Kinds(Case):
             self.bar_is("damaged", "! Copied from a desk: the desk’s number is missing")
             self.assertIn("Line 1 of the sheet: the desk’s number is missing; put it and a space before this line (for desk 1: “1 sheet "
                           "provisional 9”)", page.text("#why"))
-
-    def test_at_a_tie_no_seats_are_said_to_follow(self):
-        tied = "1 sheet final 1\nhouse 1\nseats key 2000/2\nupper key 20/1\n" \
-               "constituency 1 persons 1000 seats 1 votes 20 divisor 15.000000 X\n" \
-               "group 1 quorum yes voters 10 seats 1 divisor 1.000000 A\ngroup 2 quorum yes voters 10 seats 0 divisor - B\n" \
-               "list 1 1 votes 10 voters 10 seats 1\nlist 1 2 votes 10 voters 10 seats 0\nend\n"
-        self.assertIn("Whether seats change is not known", self.page.show(tied).text("#why"))
 
     def test_right_sheets_and_the_seats_that_follow(self):
         """The page's own check says right of each, and finds no others: of those of the repository, and of some made up."""

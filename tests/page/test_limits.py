@@ -1,4 +1,4 @@
-"""The limits of divisors, set-ups and rows, and inputs that would take long."""
+"""The limits of set-ups, rows and sheets, and inputs that would take long."""
 import hashlib
 
 from case import EXAMPLE, SETUP, LARGEST, ROWS, Case, changed
@@ -38,23 +38,6 @@ HELD = ((3, NO_ROW, ROW, "1,2,4294967296,300", "1,2,0,300", "1,2,1,4294967296", 
 
 
 class Limits(Case):
-    @staticmethod
-    def one(votes, row, column):
-        """A sheet of one constituency and one group of 5 seats, with these divisors."""
-        return (f"1 sheet final 1\nhouse 5\nseats key 2000/10\nupper key {2 * votes // 5}/10\n"
-                f"constituency 1 persons 1000 seats 5 votes {votes} divisor {row} X\n"
-                f"group 1 quorum yes voters {votes // 5} seats 5 divisor {column} A\n"
-                f"list 1 1 votes {votes} voters {votes // 5} seats 5\nend\n")
-
-    def test_divisors(self):
-        """At most 10^12 of a constituency and 10^6 of a group, as printed."""
-        million = 5_000_000
-        self.holds(self.one(million, "1000000000000.000000", "0.000001"))
-        self.fails("lists", 5, "its divisor is at most 1,000,000,000,000", self.one(million, "1000000000000.000001", "0.000001"))
-        self.holds(self.one(million, "1.000000", "1000000.000000"))
-        self.fails("lists", 6, "its divisor is at most 1,000,000", self.one(million, "1.000000", "1000000.000001"))
-        self.fails("lists", 6, "its divisor is at most 1,000,000", self.one(10 * million, "0.000001", "10000000000000.000000"))
-
     def are_faults(self, wanted, text, may_be, setup=None):
         """The faults are these of the text, changed so, which is a set-up, or rows of a set-up that is given; and these may be."""
         cases = [(line, reason, changed(text, old, new)) for line, reason, old, *others in wanted for new in others]
@@ -89,15 +72,6 @@ class Limits(Case):
             self.assertIn(reason, self.page.sheet(EXAMPLE.ljust(length, "x")).text(".fault .reason"))
             self.bar_is("wrong", "✗ Wrong: this is not a sheet")
             self.assertEqual(self.page.text("#kind"), "NOT READABLE AS A SHEET")
-
-    def test_bytes_that_are_no_text(self):
-        data = EXAMPLE.encode()
-        for at, line in ((0, 1), (len(data) // 2, 9), (len(data), 21)):
-            for bad in (b"\xff", b"\xc3", b"\xed\xa0\x80"):
-                with self.subTest(at=at, bad=bad):
-                    page = self.fails(None, line, "it is not UTF-8", data[:at] + bad + data[at:])
-                    self.assertEqual(page.text("#verdict"), "✗ Wrong: this is not a sheet")
-                    self.assertTrue(page.text("#why").startswith(f"Line {line} of the sheet: it is not UTF-8"), page.text("#why"))
 
     def test_sums(self):
         """SHA-256 of texts of each length about a block, and of the longest."""

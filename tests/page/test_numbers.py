@@ -99,14 +99,11 @@ class Numbers(Case):
             self.assertEqual(Fraction(high[1]), x[d] * y[g] * (2 * seats + 1) / 2)
             self.assertEqual(Fraction(low[1]) if low else 0, x[d] * y[g] * (2 * seats - 1) / 2 if seats else 0)
             self.assertIn("✓ holds", text)
-
-    def test_the_parliament_has_each_seat(self):
-        blocks = self.holds(ZURICH.sheet).run("""
+        # The parliament has each seat.
+        blocks = page.run("""
             return [...document.querySelectorAll('.arc g')].map((block) => [block.querySelectorAll('.seat').length,
               [...block.querySelectorAll('text')].map((it) => it.textContent), getComputedStyle(block.querySelector('.seat')).fill]);
         """)
-        self.assertEqual([it[0] for it in blocks], [44, 24, 19, 14, 10, 6, 5, 3])
-        for number, (count, texts, _) in enumerate(blocks, 1):
-            self.assertEqual(texts, [str(number)] * count)
-        self.assertEqual(len({it[2] for it in blocks}), 8)
-        self.assertEqual(self.page.text(".legend li"), "1 SP 44")
+        seats = [44, 24, 19, 14, 10, 6, 5, 3]
+        self.assertEqual([it[:2] for it in blocks], [[count, [str(number)] * count] for number, count in enumerate(seats, 1)])
+        self.assertEqual((len({it[2] for it in blocks}), page.text(".legend li")), (8, "1 SP 44"))

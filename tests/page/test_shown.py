@@ -27,14 +27,16 @@ class Shown(Case):
             self.is_now(state, end.get(state, "sheet wrong"))
 
     def test_an_answer_that_comes_late_is_not_shown(self):
+        """While it runs nothing is green."""
         page = self.page
         page.run("""
             const first = asked;
             window.late = [];
             asked = (texts) => new Promise((is) => { first(texts).then((answer) => window.late.push(() => is(answer))); });
         """)
-        page.give(("setup.toml", SETUP), ("sheet.txt", EXAMPLE))
+        page.give(("setup.toml", SETUP), ("sheet.txt", EXAMPLE), ("held.csv", ROWS))
         page.wait("return window.late.length === 1")
+        self.assertEqual((page.run("return document.body.dataset.proved"), *page.bar()), ("runs", "right", "unsure"))
         page.give(("wrong.txt", WRONG))
         page.wait("return window.late.length === 2")
         page.run("window.late[0]()")
@@ -43,10 +45,6 @@ class Shown(Case):
         page.wait("return document.body.dataset.proved === 'wrong'")
         self.is_now("wrong", "sheet wrong")
 
-    def test_while_it_runs_nothing_is_green(self):
-        page = self.page.show(EXAMPLE, *OTHERS)
-        self.assertEqual((*page.bar(), page.run("return document.body.dataset.proved")), ("right", "unsure", "runs"))
-
     def test_what_it_refuses(self):
         for files, said, why in (((EXAMPLE, SETUP.replace("house = 10", "house = 401")), "setup range house", "setup range, house"),
                                  ((EXAMPLE, SETUP, ROWS.replace("1,3,1,175", "1,2,1,175")), "held twice", "held twice")):
@@ -54,6 +52,8 @@ class Shown(Case):
             self.is_now("unsure", said)
             self.assertTrue(page.text("#proved p").startswith("It did not run. It reports"))
             self.assertIn(f"The proved check did not run: {why}", page.text("#ticks"))
+        page.sheet(EXAMPLE, SETUP, ROWS + "\n" * 1_048_577)
+        self.assertEqual((page.state(), page.text("#proved p")), ("unsure", "It did not run: the returns are too long."))
 
     def test_which_page_this_is(self):
         """Its foot says of which version it is, and how that is found out: by a command, with the sum in README. It shows no sum itself."""
@@ -82,11 +82,9 @@ class Failing(Case):
         self.assertRegex(page.text("#proved p"), "^It did not run: " + why)
         self.assertEqual(page.choose(("sheet.txt", WRONG)).state(), "wrong")
 
-    def test_the_module_is_taken_out(self):
-        self.fails_with("its module is missing from this page", self.another(seals.with_module(self.path.read_text(), b"")))
-
-    def test_the_module_is_cut_or_another_or_forbidden(self):
+    def test_the_module_is_taken_out_cut_another_or_forbidden(self):
         module, text = seals.SEAL.module_in(self.path), self.path.read_text()
+        self.fails_with("its module is missing from this page", self.another(seals.with_module(text, b"")))
         for other in (module[:-1], module[:1000], b"\0asm\1\0\0\0", b"no module"):
             with self.subTest(len(other)):
                 self.fails_with(".", self.another(seals.with_module(text, other)))
@@ -103,11 +101,6 @@ class Failing(Case):
                             """)):
             with self.subTest(before):
                 self.fails_with(why, before=before)
-
-    def test_rows_that_are_too_long(self):
-        page = self.page.sheet(EXAMPLE, SETUP, ROWS + "\n" * 1_048_577)
-        self.assertEqual(page.state(), "unsure")
-        self.assertIn("the returns are too long", page.text("#proved"))
 
     def test_without_a_worker_it_runs_in_the_page(self):
         self.another(changed(self.path.read_text(), "worker-src blob:", "worker-src 'none'")).sheet(EXAMPLE, *OTHERS)

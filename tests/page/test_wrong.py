@@ -8,6 +8,13 @@ from case import EXAMPLE, SETUP, OTHERS, ROWS, Case, changed
 from sheets import ZURICH
 
 FEW = model.Election(10, [1000], [[600, 370, 30]]).sheet()
+# Sheets of one constituency and one group, with the largest divisor of either; and one with a seat too many, to which it rounds.
+LARGE_ROW, LARGE_COLUMN = (
+    "1 sheet final 1\nhouse 5\nseats key 2000/10\nupper key 2000000/10\n"
+    f"constituency 1 persons 1000 seats 5 votes 5000000 divisor {row} X\ngroup 1 quorum yes voters 1000000 seats 5 divisor {column} A\n"
+    "list 1 1 votes 5000000 voters 1000000 seats 5\nend\n"
+    for row, column in (("1000000000000.000000", "0.000001"), ("1.000000", "1000000.000000")))
+ROUNDS = changed(EXAMPLE, "list 1 2 votes 300 voters 60 seats 1", "list 1 2 votes 300 voters 60 seats 2")
 # Of a sheet, the part and the line that fail first, why, a text, and others in its place.
 NUMBERS = [(EXAMPLE, *it) for it in (
     # A half is outside of both ends of an interval.
@@ -30,13 +37,20 @@ NUMBERS = [(EXAMPLE, *it) for it in (
         ("voters", 8, "the group takes no part", "no voters -", "no voters 3"),
         ("groups", 8, "a group without seats has no divisor", "seats 0 divisor -", "seats 0 divisor 1.000000"),
         ("voters", 11, "the group takes no part", "votes 30 voters -", "votes 30 voters 3"))] + [
+    (LARGE_ROW, "lists", 5, "its divisor is at most 1,000,000,000,000", "1000000000000.000000", "1000000000000.000001"),
+    (LARGE_COLUMN, "lists", 6, "its divisor is at most 1,000,000", "1000000.000000", "1000000.000001"),
+    (ROUNDS, "lists", 5, "the seats of its lists make 6, and not 5", "205.000000", "186.000000"),
     (ZURICH.sheet, "lists", 22, "28,518 / (7,242.666666 × 1.007187) = 3.909.. rounds to 4", "2377 seats 4", "2377 seats 5")]
 # What is no line of a sheet, or no line there.
 FORMS = ((1, "1 sheet", "0 sheet"), (1, "1 sheet", "9 sheet"), (1, "provisional", "preliminary"), (2, "house 10", "house 010"),
          (2, "house 10", "house  10"), (5, "205.000000", "205.00000"), (8, "yes voters 230", "maybe voters 230"), (11, "525", "0525"),
          (11, "525", "-525"), (20, "end", "End"), (20, "end", "end "))
 # How a sheet that can't be read is changed: the colour, the line and the reason.
-TEXTS = (("damaged", 12, "cut off within this line", EXAMPLE[:EXAMPLE.index("list 1 2") + 12]),
+DATA, LINES = EXAMPLE.encode(), EXAMPLE.splitlines(keepends=True)
+TEXTS = (*(("damaged", count + 1, "the sheet is cut off here", "".join(LINES[:count])) for count in range(len(LINES))),
+         *(("wrong", line, "it is not UTF-8", DATA[:at] + bad + DATA[at:]) for at, line in ((0, 1), (len(DATA) // 2, 9), (len(DATA), 21))
+           for bad in (b"\xff", b"\xc3", b"\xed\xa0\x80")),
+         ("damaged", 12, "cut off within this line", EXAMPLE[:EXAMPLE.index("list 1 2") + 12]),
          ("damaged", 20, "its line end is missing", EXAMPLE[:-1]),
          ("damaged", 1, "it ends in a carriage return (CR LF)", EXAMPLE.replace("\n", "\r\n")),
          ("damaged", 7, "it ends in a carriage return (CR LF)", changed(EXAMPLE, "West\n", "West\r\n")),
@@ -65,6 +79,8 @@ class Wrong(Case):
                     self.fails(part, line, reason, changed(sheet, old, new))
         for old, new in (("provisional 9", "provisional 18446744073709551615"), ("Mitte", "seats 3"), ("Mitte", "é" * 20)):
             self.holds(changed(EXAMPLE, old, new))
+        self.holds(LARGE_ROW)
+        self.holds(LARGE_COLUMN)
 
     def test_each_number_changed_by_one(self):
         """Only the desk, K and divisors may be others."""
@@ -78,13 +94,6 @@ class Wrong(Case):
                     wanted.append("right" if is_free else "wrong")
         self.assertGreater(len(cases), 140)
         self.assertEqual(self.page.states(*cases), wanted)
-
-    def test_totals(self):
-        """Seats that all round, but do not add up as those of their constituency and their group."""
-        page = self.fails("lists", 5, "the seats of its lists make 6, and not 5", changed(EXAMPLE, "205.000000", "186.000000")
-                          .replace("voters 60 seats 1", "voters 60 seats 2", 1), SETUP)
-        self.assertEqual(page.failing(), ["lists"])
-        self.assertEqual(page.texts(".fault .reason")[1:], ["the seats of its lists make 5, and not 4"])
 
     def test_of_equal_worth_the_first_has_the_key_and_a_half_voter_is_rounded_up(self):
         for line, election in (("seats key 4000/3", model.Election(3, [1000, 3000], [[100], [200]])),
@@ -114,14 +123,6 @@ class Wrong(Case):
         whole.votes[5][1] = None
         page = self.fails("form", 41, "before it the line “list 6 2 ..” is missing", whole.sheet(), setup, state="mismatch")
         self.assertEqual(page.failing(), ["form"])
-
-    def test_a_cut_sheet(self):
-        lines = EXAMPLE.splitlines(keepends=True)
-        for count in range(len(lines)):
-            with self.subTest(count):
-                page = self.fails(None, count + 1, "the sheet is cut off here", "".join(lines[:count]), state="damaged")
-                self.assertEqual(page.text("#kind"), "NOT READABLE AS A SHEET")
-                self.assertEqual(page.text("#verdict"), "! This file is cut off: get it again")
 
     def test_what_is_no_line_or_follows_the_end(self):
         for state, line, reason, text in TEXTS:
