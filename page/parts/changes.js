@@ -8,8 +8,8 @@ function changesOf(before, now) {
     const difference = typeof was === 'bigint' && typeof is === 'bigint' ? is - was : null;
     if (was !== is) found.push({ what, was: was ?? '-', now: is ?? '-', difference });
   };
-  const each = (kind, tell) => {
-    const [old, next] = [byName(before[kind]), byName(now[kind])];
+  const each = (rowsOf, tell) => {
+    const [old, next] = [byName(rowsOf(before)), byName(rowsOf(now))];
     for (const name of new Set([...old.keys(), ...next.keys()])) tell(name, old.get(name), next.get(name));
   };
   const yes = (one) => (one ? say(one.takesPart ? 'yes' : 'no') : undefined);
@@ -18,22 +18,18 @@ function changesOf(before, now) {
   note(say('houseWord'), before.house.seats, now.house.seats);
   note(say('quorumCanton'), before.quorum?.perMille, now.quorum?.perMille);
   note(say('allVotesWord'), allVotes(before), allVotes(now));
-  each('groups', (name, old, next) => {
+  each(({ groups }) => groups, (name, old, next) => {
     note(pieces('takesPartIn', { name: isolated(name) }), yes(old), yes(next));
     note(pieces('seatsIn', { name: isolated(name) }), old?.seats, next?.seats);
   });
-  each('constituencies', (name, old, next) => {
+  each(({ constituencies }) => constituencies, (name, old, next) => {
     note(pieces('seatsIn', { name: isolated(name) }), old?.seats, next?.seats);
     note(pieces('votesIn', { name: isolated(name) }), old?.votes, next?.votes);
   });
-  const lists = (sheet) => new Map(sheet.lists.map((list) => [
-    `${constituencyFor(sheet, list).name}\n${groupFor(sheet, list).name}`, list]));
-  const [old, next] = [lists(before), lists(now)];
-  const both = (name) => { const [first, second] = name.split('\n'); return [isolated(first), ', ', isolated(second)]; };
+  const lists = (sheet) => sheet.lists.map((list) => (
+    { ...list, name: `${constituencyFor(sheet, list).name}\n${groupFor(sheet, list).name}` }));
   for (const [key, what] of [['seatsIn', 'seats'], ['votesIn', 'votes']]) {
-    for (const name of new Set([...old.keys(), ...next.keys()])) {
-      note(pieces(key, { name: both(name) }), old.get(name)?.[what], next.get(name)?.[what]);
-    }
+    each(lists, (name, old, next) => note(pieces(key, { name: namesShown(name.split('\n')) }), old?.[what], next?.[what]));
   }
   return found;
 }

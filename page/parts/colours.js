@@ -62,5 +62,5 @@ function colourTable(groups) {
   return make('details', { id: 'colours', class: 'screen', open: find('colours')?.hasAttribute('open') ?? false },
     make('summary', {}, say('colours')), make('p', { class: 'hint' }, say('coloursHint')),
     tableOf({}, [say('group'), say('colour')], groups.map(row)),
-    make('button', { type: 'button', onclick: () => keepColours([]) }, say('coloursBack')));
+    button(say('coloursBack'), () => keepColours([])));
 }

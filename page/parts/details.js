@@ -112,9 +112,9 @@ function groupDetail(sheet, group, faults, { keys, follow }) {
   ]);
 }
 
-function showDetail(children, button) {
+function showDetail(children, opener) {
   const panel = find('detail');
-  const close = () => { panel.hidden = true; panel.replaceChildren(); button.focus(); };
-  put('detail', make('button', { type: 'button', class: 'close', 'aria-label': say('close'), onclick: close }, '×'), children);
+  const close = () => { panel.hidden = true; panel.replaceChildren(); opener.focus(); };
+  put('detail', button('×', close, { class: 'close', 'aria-label': say('close') }), children);
   panel.hidden = false;
 }

@@ -24,6 +24,8 @@ const make = (tag, attributes = {}, ...children) => fill(document.createElement(
 const draw = (tag, attributes = {}, ...children) => (
   fill(document.createElementNS('http://www.w3.org/2000/svg', tag), attributes, children));
 
+const button = (text, onclick, attributes = {}) => make('button', { type: 'button', ...attributes, onclick }, text);
+
 // A table of these rows below its heads, and perhaps a last part.
 const tableOf = (attributes, heads, rows, last = null) => make('table', attributes,
   make('thead', {}, make('tr', {}, heads.map((text) => make('th', { scope: 'col' }, text)))), make('tbody', {}, rows), last);

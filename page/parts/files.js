@@ -98,15 +98,13 @@ function readFile(file, read) {
 const hashOf = ({ hash }) => (hash ? make('code', { class: 'hash' }, hash) : say('notHashed'));
 
 function removing(kind) {
-  return make('button', {
-    type: 'button', 'aria-label': say('removeWhat', { what: say(kind) }),
-    onclick: () => {
-      files[kind] = null;
-      if (kind === 'sheet') { files.sheet = files.before; files.before = null; }
-      show();
-      find('pick').focus();
-    },
-  }, say('remove'));
+  const remove = () => {
+    files[kind] = null;
+    if (kind === 'sheet') { files.sheet = files.before; files.before = null; }
+    show();
+    find('pick').focus();
+  };
+  return button(say('remove'), remove, { 'aria-label': say('removeWhat', { what: say(kind) }) });
 }
 
 const fileLine = ([kind, file]) => make('li', { class: kind },
@@ -124,9 +122,8 @@ function showFiles() {
   const area = make('textarea', { id: 'text', rows: 6, spellcheck: 'false', 'aria-label': say('paste'), 'aria-describedby': 'paste-hint' });
   const takeText = () => { if (area.value !== '') takeFiles([pasted(area.value)]); };
   const had = Object.entries(files).filter(([, file]) => file).map(fileLine);
-  const swap = files.sheet && files.before && make('p', {}, make('button', {
-    type: 'button', onclick: () => { [files.sheet, files.before] = [files.before, files.sheet]; show(); },
-  }, say('swap')));
+  const exchange = () => { [files.sheet, files.before] = [files.before, files.sheet]; show(); };
+  const swap = files.sheet && files.before && make('p', {}, button(say('swap'), exchange));
   put('files', make('h2', {}, say('files')),
     make('div', { class: 'drop' }, make('p', {}, say('threeFiles')), make('dl', {}, threeFiles()),
       make('p', { id: 'choose' }, say('drop')), picked,
@@ -134,7 +131,7 @@ function showFiles() {
       make('p', { class: 'hint' }, ['chooseCount', 'chooseMore', 'chooseOlder'].map((key) => say(key)).join(' '))),
     make('details', {}, make('summary', {}, say('paste')), area,
       make('p', { class: 'hint', id: 'paste-hint' }, say('pasteHint')),
-      make('button', { type: 'button', id: 'take', onclick: takeText }, say('take'))),
+      button(say('take'), takeText, { id: 'take' })),
     make('ul', { class: 'had' }, had), swap);
 }
 

@@ -25,11 +25,10 @@ function judge() {
   const all = sheet?.fault ? [sheet.fault] : parts.flatMap(({ faults }) => faults);
   const own = ownOf(sheet, parts, all, [setup?.found, held?.found]);
   const faults = own.verdict === 'refused' ? [] : all;
-  const isRead = (file, found) => (found ? 'read' : file?.fault ? 'unread' : 'none');
   const isCounted = held?.found && (own.verdict === 'none' || own.verdict === 'refused');
   const rows = held ? { is: held.found ? 'compared' : 'unread', line: held.fault?.line } : { is: files.held ? 'given' : 'none' };
   return {
-    own, setup: { is: isRead(setup, setup?.found), line: setup?.fault?.line }, rows,
+    own, setup: { is: setup?.found ? 'read' : setup ? 'unread' : 'none', line: setup?.fault?.line }, rows,
     returns: held?.found && { rows: held.found.rows, possible: held.found.possible, missing: held.found.missing },
     count: isCounted ? countSoFar(setup.found, held.found) : null,
     sheet: sheet?.found, parts, faults, faultsAt: byLine(faults), others, before, held: held?.found,
@@ -55,11 +54,9 @@ function showLanguages() {
     show();
     within(find('languages'), '[aria-pressed=true]').focus();
   };
-  const choices = LANGUAGES.map((one) => make('button', {
-    type: 'button', lang: one, 'aria-pressed': one === language, onclick: () => choose(one),
-  }, one === 'de' ? 'Deutsch' : 'English'));
   find('languages').setAttribute('aria-label', say('language'));
-  put('languages', choices);
+  put('languages', LANGUAGES.map((one) => (
+    button(one === 'de' ? 'Deutsch' : 'English', () => choose(one), { lang: one, 'aria-pressed': one === language }))));
 }
 
 // The bar, the sentences under it, and lines to sign, which only a sheet has that is right.
@@ -96,7 +93,7 @@ function showElection({ sheet, count }) {
   put('title', found ? say('election', { seats: found.seats, constituencies: found.constituencies.length }) : say('title'));
   put('election', found && pieces('electionNames', {
     constituencies: namesOfAll(found.constituencies), groups: namesOfAll(found.groups), votes: found.votes }));
-  put('add', (files.sheet || count) && make('button', { type: 'button', onclick: () => find('pick').click() }, say('add')));
+  put('add', (files.sheet || count) && button(say('add'), () => find('pick').click()));
 }
 
 // What was checked of it.

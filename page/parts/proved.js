@@ -49,9 +49,7 @@ Object.assign(WORDS, {
 // reason for the last two; `text` are the bytes that it wrote.
 const proved = { state: 'none', why: '', text: null, given: [], run: 0, tell: () => {} };
 
-function moduleBytes() {
-  return Uint8Array.from(atob(MODULE), (c) => c.charCodeAt(0));
-}
+const moduleBytes = () => Uint8Array.from(atob(MODULE), (c) => c.charCodeAt(0));
 
 // Ends the worker that is at work, if there is one.
 let endWorker = () => {};
@@ -153,7 +151,7 @@ function provedText({ text }) {
   const whole = new TextDecoder().decode(text);
   return [make('pre', { tabindex: 0 }, make('bdi', {}, whole.slice(0, SHOWN).split('\n').map((line) => shown(line, SHOWN)).join('\n'))),
     whole.length > SHOWN ? make('p', { class: 'hint' }, say('provedLong')) : null,
-    make('button', { type: 'button', id: 'save', onclick: () => save('verdict', text) }, say('provedSave'))];
+    button(say('provedSave'), () => save('verdict', text), { id: 'save' })];
 }
 
 // What is shown of it, where there is a sheet.

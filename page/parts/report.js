@@ -39,11 +39,9 @@ function problems({ sheet, own, faults, others }) {
 
 function partRow(part, held) {
   const bad = part.faults.length;
-  const result = bad > 0
-    ? say('fails', { count: bad, all: part.count, line: part.faults[0].line })
-    : say('holds', { count: part.count });
-  const compared = held && say(held.rows < held.possible ? 'compared' : 'comparedAll', { rows: held.rows, possible: held.possible });
-  const rows = part.name === 'votes' && held ? ` (${compared})` : '';
+  const { count, faults } = part;
+  const result = bad > 0 ? say('fails', { count: bad, all: count, line: faults[0].line }) : say('holds', { count });
+  const rows = part.name === 'votes' && held ? ` (${say(held.rows < held.possible ? 'compared' : 'comparedAll', held)})` : '';
   return make('tr', { class: bad > 0 ? 'bad' : null },
     make('th', { scope: 'row' }, mark(bad === 0), ' ', say(part.name),
       make('span', { class: 'screen hint' }, ` ${say(`${part.name}Says`)}`)),

@@ -3,10 +3,8 @@
 // A cell's mark and its panel say the same: whether there are faults on its line.
 function cellButton(content, faults, label, details) {
   const holds = faults.length === 0;
-  return make('button', {
-    type: 'button', tabindex: -1, class: holds ? 'cell' : 'cell bad', 'aria-label': `${label}, ${say(holds ? 'ok' : 'wrong')}`,
-    onclick: (event) => showDetail(details(faults), event.currentTarget),
-  }, content, holds ? null : mark(false));
+  return button([content, holds ? null : mark(false)], (event) => showDetail(details(faults), event.currentTarget), {
+    tabindex: -1, class: holds ? 'cell' : 'cell bad', 'aria-label': `${label}, ${say(holds ? 'ok' : 'wrong')}` });
 }
 
 function seatsTable({ sheet, own: { follow }, faultsAt }) {

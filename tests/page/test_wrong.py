@@ -73,14 +73,13 @@ SET_UPS = (("form", 2, "house = 10", "house = 11", "the set-up says 11 seats in 
 
 class Wrong(Case):
     def test_numbers(self):
+        for sheet in (LARGE_ROW, LARGE_COLUMN, changed(EXAMPLE, "provisional 9", "provisional 18446744073709551615"),
+                      changed(EXAMPLE, "Mitte", "seats 3"), changed(EXAMPLE, "Mitte", "é" * 20)):
+            self.holds(sheet)
         for sheet, part, line, reason, old, *others in NUMBERS:
             for new in others:
                 with self.subTest(new):
                     self.fails(part, line, reason, changed(sheet, old, new))
-        for old, new in (("provisional 9", "provisional 18446744073709551615"), ("Mitte", "seats 3"), ("Mitte", "é" * 20)):
-            self.holds(changed(EXAMPLE, old, new))
-        self.holds(LARGE_ROW)
-        self.holds(LARGE_COLUMN)
 
     def test_each_number_changed_by_one(self):
         """Only the desk, K and divisors may be others."""
