@@ -44,12 +44,6 @@ class Bar(Case):
                 self.assertEqual(said["heading"]["key"] == "barDiffer",
                                  differ and (own == "wrong" or is_read and one["rows"]["is"] in ("compared", "none")))
 
-    def test_a_list_too_many_passes_alone(self):
-        more = changed(changed(EXAMPLE, "25 seats 0\n", "25 seats 0\nlist 3 4 votes 0 voters - seats 0\n"), "divisor 1.000000 C\n",
-                       "divisor 1.000000 C\ngroup 4 quorum no voters - seats 0 divisor - D\n")
-        self.assertIn("a list too many", self.holds(more).text("#ticks"))
-        self.assertEqual(self.page.show(more, SETUP).state(), "mismatch")
-
     def test_returns_that_are_missing(self):
         election = model.Election(10, [5000, 3000, 2000], [[525, 300, 175], [240, 330, 30], [90, 60, 0]])
         sheet, setup, rows = election.files()

@@ -25,8 +25,10 @@ OTHER_SEATS, NOR = "other seats follow from the votes on the sheet: Nord, A 3, n
 OTHER_VOTES, OTHER_SETUP = "≠ Does not match the returns: other votes", "≠ Does not match the set-up"
 NO_SHEET = ("The seats are not checked, and nothing is said against",
             "It finds no whole sheet in this file. “sheet wrong” in its last line")
-# A set-up with what TOML has and this page does not understand, and a sheet whose seats are tied.
+# A set-up with what TOML has and this page does not understand, a sheet with a list too many, and one whose seats are tied.
 SPREAD = SETUP.replace("[1, 2, 3]", "[1,\n2, 3]", 1)
+TOO_MANY = changed(changed(EXAMPLE, "25 seats 0\n", "25 seats 0\nlist 3 4 votes 0 voters - seats 0\n"), "divisor 1.000000 C\n",
+                   "divisor 1.000000 C\ngroup 4 quorum no voters - seats 0 divisor - D\n")
 TIED = ("1 sheet final 1\nhouse 1\nseats key 2000/2\nupper key 20/1\nconstituency 1 persons 1000 seats 1 votes 20 divisor 15.000000 X\n"
         "group 1 quorum yes voters 10 seats 1 divisor 1.000000 A\ngroup 2 quorum yes voters 10 seats 0 divisor - B\n"
         "list 1 1 votes 10 voters 10 seats 1\nlist 1 2 votes 10 voters 10 seats 0\nend\n")
@@ -57,7 +59,8 @@ BARS = (
         f"{NO_SETUP} {NO_ROWS} ! One check of two says: right The proved check needs the set-up.",
         "You have not opened the set-up and the returns: whether these are the votes that were reported is not checked.",
         "The parliament as this sheet has it: not fully checked", "Not checked without the set-up: number of seats, quorum, names",
-        "Not compared with the returns", "Not checked without the set-up: the persons"], [], EXAMPLE))
+        "Not compared with the returns", "Not checked without the set-up: the persons"], [], EXAMPLE),
+    ("alone", OF_SHEET, [NO_SETUP], [], TOO_MANY))
 # Where it says wrong, the same: of sheets that are wrong themselves, of those that do not match another file, and of those that can't be
 # read.
 KINDS = (
@@ -113,6 +116,7 @@ KINDS = (
                    "≠ Set-up opened, but it does not match"], [], EXAMPLE, ELEVEN, ROWS),
     (OTHER_SETUP, ["Line 5 of the sheet: Nord: the set-up says Norden, the sheet Nord", "By this set-up the seats would be the same."], [],
      EXAMPLE, changed(SETUP, '"Nord"', '"Norden"'), ROWS),
+    (OTHER_SETUP, ["the sheet has D, which the set-up has not"], [], TOO_MANY, SETUP),
     *(("✗ Wrong: this is not a sheet", ["Line 1 of the sheet: it does not belong here"], [], it, *OTHERS) for it in (
         "hello\n", COPIED.replace("provisional", "official"), f"9 {COPIED}", f" {COPIED}")),
     *(("! This file is damaged: get it again", ["it ends in a carriage return", *NO_SHEET], ["Both checks"], it.replace("\n", "\r\n"),

@@ -114,24 +114,21 @@ class Chromium(Proved, Case):
                 self.assertEqual(state, "wrong" if status else "right")
 
     def test_each_sheet_of_the_repository(self):
+        """And some with a forged quorum, or beside other rows."""
         found = [*sheets.all_sheets()]
         self.assertGreaterEqual(len(found), 28)
-        self.same(*(([sheet], setup, rows) for _, sheet, setup, held in found for rows in {None, held}))
-
-    def test_each_change_of_a_sheet(self):
-        self.same((list(changes(EXAMPLE)), SETUP, None))
-
-    def test_changes_of_other_sheets(self):
-        chance = random.Random(SEED)
-        few = model.Election(10, [1000], [[600, 370, 30]])
-        found = [few.files()] + [found[1:] for found in sheets.all_sheets()]
-        self.same(*((chance.sample(list(changes(sheet)), SAMPLE), setup, held) for sheet, setup, held in found))
-
-    def test_forged_quorums_and_rows(self):
         election = model.made_up(3, 6, 5, 60)
         rows = ROWS, ROWS.replace("525", "526"), ROWS.replace("3,3,1,50", "3,3,2,withdrawn"), ROWS.replace("1,1,1,525\n", "")
-        self.same(([election.sheet(), election.sheet(part=[True] * 3 + [False, True])], election.setup(), election.held()),
+        self.same(*(([sheet], setup, rows) for _, sheet, setup, held in found for rows in {None, held}),
+                  ([election.sheet(), election.sheet(part=[True] * 3 + [False, True])], election.setup(), election.held()),
                   *(([EXAMPLE], SETUP, held) for held in rows))
+
+    def test_each_change_of_a_sheet(self):
+        """Of the example each, and of others some."""
+        chance = random.Random(SEED)
+        others = [model.Election(10, [1000], [[600, 370, 30]]).files(), *(found[1:] for found in sheets.all_sheets())]
+        self.same((list(changes(EXAMPLE)), SETUP, None),
+                  *((chance.sample(list(changes(sheet)), SAMPLE), setup, held) for sheet, setup, held in others))
 
     def test_what_it_refuses(self):
         """Set-ups of the cases, rows, and texts that are too long."""
