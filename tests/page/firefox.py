@@ -61,7 +61,7 @@ class Marionette:
         self.number += 1
         name = COMMANDS.get(command, f"WebDriver:{command[0].upper()}{command[1:]}")
         given = {key: it for key, it in parameters.items() if key != "sessionId"}
-        given |= {"newSandbox": False, "sandbox": None} if "args" in given else {}
+        given.update({"newSandbox": False, "sandbox": None} if "args" in given else {})
         data = json.dumps([0, self.number, name, given]).encode()
         self.stream.write(b"%d:%s" % (len(data), data))
         self.stream.flush()

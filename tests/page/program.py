@@ -13,7 +13,7 @@ def without_path(report):
     """A report as the module words it, which is handed texts and no files: of the second line the place alone, without the path
     before it and the limits after it."""
     name, _, line = report.partition(b"\n")
-    place = line.removesuffix(b"\n").partition(b": ")[2]
+    place = line.rstrip(b"\n").partition(b": ")[2]
     if name == b"setup range":
         place = place.partition(b": ")[0]
     return b"".join(it + b"\n" for it in (name, place) if it)
@@ -32,7 +32,7 @@ def answer(setup, sheet, held=None):
                              stderr=subprocess.PIPE)
     if ran.stdout:
         return ran.returncode, ran.stdout
-    report = without_path(ran.stderr.removeprefix(b"zhcount: "))
+    report = without_path(ran.stderr.replace(b"zhcount: ", b"", 1))
     return (2 if report.startswith(b"setup ") else 3 if report.startswith(b"held ") else ran.stderr), report
 
 

@@ -25,7 +25,7 @@ class Bar(Case):
                   "returns": {"rows": held, "possible": 9, "missing": [{"name": "Nord", "lists": ["A"]}]}}
                  for own, proved, setup, rows, held in itertools.product(OWN, PROVED, SET_UP_IS, GIVEN, (0, 8, 9))]
         bars = self.page.run("return arguments[0].map(barOf)", found)
-        for one, said in zip(found, bars, strict=True):
+        for one, said in zip(found, bars):
             own, proved = one["own"]["verdict"], one["proved"]["state"]
             is_read, is_whole = one["setup"]["is"] == "read", one["rows"]["is"] == "compared" and one["returns"]["rows"] == 9
             differ = {own, proved} == {"right", "wrong"}

@@ -8,7 +8,7 @@ from sheets import ZURICH
 DIVISOR = changed(EXAMPLE, "205.000000", "150.000000")
 NO_DIVISOR = changed(EXAMPLE, "seats 5 divisor 1.000000 A", "seats 5 divisor - A")
 ELEVEN, MORE = changed(SETUP, "house = 10", "house = 11"), changed(ROWS, "1,1,1,525", "1,1,1,526")
-COPIED = EXAMPLE.removeprefix("1 ")
+COPIED = EXAMPLE[len("1 "):]
 
 
 def moved(*seats):
@@ -40,7 +40,7 @@ NO_SETUP, NO_ROWS, ROWS_ALONE = (
     "too few would not show.", "! Not opened: the returns Whether these are the votes that were reported is not checked.",
     "! Returns opened, but not compared To compare them, the page needs the set-up.")
 # By what the proved check says: headings, what else is said, and what is not, and the files.
-BARS = (
+BARS: tuple = (
     ("failed", OF_ONE, ["The proved check did not run: no memory"], [], EXAMPLE, *OTHERS),
     ("absent", OF_ONE, ["This copy of the page has no proved check."], [], EXAMPLE, *OTHERS),
     ("runs", "! The proved check is at work", ["own check says: right"], [], EXAMPLE, *OTHERS),

@@ -82,7 +82,9 @@ class Proved:
         """The page answers each of these as the program does, byte for byte; and some of them in a worker."""
         self.page.open()
         for some, in_worker in ((cases, False), (cases[::WORKER], True)):
-            for case, answer, wanted in zip(some, self.answers(some, in_worker), program.answers(some), strict=True):
+            answers = self.answers(some, in_worker)
+            self.assertEqual(len(answers), len(some))
+            for case, answer, wanted in zip(some, answers, program.answers(some)):
                 with self.subTest(case[1][:400]):
                     self.assertEqual(answer, wanted)
 
@@ -108,7 +110,7 @@ class Chromium(Proved, Case):
         cases = [(text, setup, held) for texts, setup, held in found for text in texts]
         coded = [utf8(setup, text, held) for text, setup, held in cases]
         self.same_answers(coded)
-        for (text, *_), (status, answer), state in zip(cases, program.answers(coded), self.page.states(*cases), strict=True):
+        for (text, *_), (status, answer), state in zip(cases, program.answers(coded), self.page.states(*cases)):
             with self.subTest(text[:400]):
                 self.assertTrue(status == 0 or status == 1 and answer.endswith(b"sheet wrong\n"), answer)
                 self.assertEqual(state, "wrong" if status else "right")

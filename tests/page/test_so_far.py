@@ -79,7 +79,9 @@ class SoFar(Case):
         for css, name, wanted in (("#held-so-far", "Returns by constituency", [1, 1 / 3, 0]),
                                   ("#votes-so-far", "Votes by group", [1, 300 / 765, 175 / 765])):
             self.assertEqual((page.one(css).aria_role, page.one(css).accessible_name), ("table", name))
-            for is_now, should in zip(page.run(WIDTHS, css), wanted, strict=True):
+            widths = page.run(WIDTHS, css)
+            self.assertEqual(len(widths), len(wanted))
+            for is_now, should in zip(widths, wanted):
                 self.assertAlmostEqual(is_now, should, delta=0.03)
         page.speak("de")
         self.assertEqual(page.seen("#verdict", "#so-far h2", "#so-far p", "#so-far caption"), [
