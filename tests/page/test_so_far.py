@@ -11,7 +11,7 @@ import pytest
 import model
 import sheets
 from case import EXAMPLE, SETUP, ROWS, Case, changed
-from places import PROGRAM
+from places import PROGRAM, TOP
 
 FEW = "".join(ROWS.splitlines(keepends=True)[:5])
 NO_SEATS = "zhcount: refused novotes 3\n"
@@ -25,14 +25,8 @@ WIDTHS = """
     const width = (one) => one.getBoundingClientRect().width;
     return [...document.querySelectorAll(`${arguments[0]} tbody .gauge`)].map((it) => width(it.querySelector('.part')) / width(it));
 """
-# The tables of a published folder, as FORMATS has their first lines.
-TABLES = [(name, f"{head}\n") for name, head in (
-    ("seat-constituencies.csv", "constituency,persons,seats,votes,divisor,key,kind,commands,constituency_name"),
-    ("seat-groups.csv", "group,quorum,votes,voters,seats,divisor,key,kind,commands,group_name"),
-    ("seats.csv", "constituency,group,votes,voters,seats,constituency_divisor,group_divisor,quotient_cut_off_after_6_digits,kind,commands,"
-                  "constituency_name,group_name"),
-    ("vote-groups.csv", "group,votes,all_votes,reaches_quorum,held,due,commands,group_name"),
-    ("votes.csv", "constituency,group,votes,constituency_votes,reaches_quorum,held,due,commands,constituency_name,group_name"))]
+# The first lines of the tables of a published folder.
+HEADS = re.findall(r"^ *((?:constituency|group),[a-z0-9_,]+)$", (TOP / "docs/FORMATS.md").read_text(), re.M)
 
 
 def nights():
@@ -107,9 +101,10 @@ class SoFar(Case):
 
     def test_the_whole_folder(self):
         """Of all that is published together, the tables and the page itself are left, with a sheet and without one."""
-        tables = [(name, head + "1,1,525\n") for name, head in TABLES]
+        tables = [(f"table-{at}.csv", f"{head}\n1,1,525\n") for at, head in enumerate(HEADS)]
+        before = [it for it in tables if "reaches_quorum" in it[1]]
+        self.assertEqual((len(before), len(tables)), (2, 5))
         rest = ("index.html", self.page.path.read_text()), ("setup.toml", SETUP)
-        before = [it for it in tables if it[0].startswith("vote")]
         page = self.page.choose(*sorted((*rest, ("held.csv", FEW), ("no-seats", NO_SEATS), *before)))
         self.assertEqual((page.state(), page.texts(".had .file")), ("answer", ["no-seats", "setup.toml", "held.csv"]))
         self.assertIn("4 of 9 returns are in.", page.text("#so-far"))
