@@ -90,6 +90,8 @@ KINDS = (
     ("✗ Wrong: 1 seat", [OTHER_SEATS], [NOR], WRONG),
     ("✗ Wrong: 3 seats", ["Nord, A 3, not 2; Nord, B 1, not 2; Mitte, A 1, not 2; 2 more."], [],
      moved(("1 1", 2), ("1 2", 2), ("2 1", 2), ("2 2", 1), ("3 1", 0)), *OTHERS),
+    ("✗ Wrong: 2 seats", ["= 2.560.. rounds to 3", " 4 checks fail."], [],  # all totals are met
+     moved(("1 1", 2), ("1 2", 2), ("2 1", 2), ("2 2", 1)), *OTHERS),
     ("✗ Wrong: 1 seat", ["In Nord the sheet gives B 1 seat that belongs to A."], [], moved(("1 1", 2), ("1 2", 2)), *OTHERS),
     ("✗ Wrong: a total of seats", ["A in total 5, not 6", "1 A 6 right: 5 2 B"], [],
      changed(EXAMPLE, "voters 230 seats 5", "voters 230 seats 6"), *OTHERS),
