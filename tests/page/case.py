@@ -37,7 +37,6 @@ LARGEST = model.made_up(1, 32, 32, 400, quorum=1)
 HEADINGS = {"wrong": "✗ Wrong: ", "mismatch": "≠ Does not match the ", "damaged": "! This file is "}
 # German words beside those that a desk, an entry, the office, a sheet, a set-up and a verdict have; and what a Swiss office does not write.
 OTHER_WORDS = r"ß|Set-up|vorläufig|Urteil|Tausenderstrich|\b(Platz|Plätze|Eingabe|Büro|Blatt|Blätter)"
-HOSTILE = "<img src=x onerror=alert(1)>"
 
 
 def changed(text, old, new):

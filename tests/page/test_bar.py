@@ -3,7 +3,7 @@ import itertools
 
 import model
 from browser import By
-from case import EXAMPLE, SETUP, OTHERS, ROWS, Case, changed
+from case import EXAMPLE, OTHERS, ROWS, SETUP, Case, changed
 
 FAULT = {"line": 7, "reason": "nobody", "values": {}}
 KINDS = [{"colour": colour, "heading": {"key": "isSeats"}, "sentence": [{"fault": FAULT}]} for colour in ("wrong", "mismatch")]

@@ -1,7 +1,7 @@
 """Colours that a reader chooses for groups, which the address keeps."""
 from selenium.webdriver.common.keys import Keys
 
-from case import EXAMPLE, SETUP, LARGEST, ROWS, Case
+from case import EXAMPLE, LARGEST, ROWS, SETUP, Case
 from test_sight import contrast
 
 RED, YELLOW = "rgb(227, 6, 19)", "rgb(255, 237, 0)"

@@ -2,7 +2,7 @@
 change; and what the first screen has of it."""
 import model
 import sheets
-from case import EXAMPLE, SETUP, LARGEST, OTHERS, ROWS, WRONG, WRONG_KEY, Case, changed
+from case import EXAMPLE, LARGEST, OTHERS, ROWS, SETUP, WRONG, WRONG_KEY, Case, changed
 from sheets import ZURICH
 
 DIVISOR = changed(EXAMPLE, "205.000000", "150.000000")

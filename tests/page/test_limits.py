@@ -1,7 +1,7 @@
 """The limits of set-ups, rows and sheets, and inputs that would take long."""
 import hashlib
 
-from case import EXAMPLE, SETUP, LARGEST, ROWS, Case, changed
+from case import EXAMPLE, LARGEST, ROWS, SETUP, Case, changed
 
 MIB = 1_048_576
 LONGEST_SHEET, LONGEST_ROWS = 280_064, 483_488
@@ -35,6 +35,16 @@ HELD = ((3, NO_ROW, ROW, "1,2,4294967296,300", "1,2,0,300", "1,2,1,4294967296", 
          "1,2,1,300,", "1,2,1,0300", "1,2,1, 300", "1,2,1,\u0663", "1,2,1"),
         (3, "more than 1,000,000,000 votes", ROW, "1,2,1,4294967295"), (4, "there twice", "1,3,1,175", "1,2,1,175"),
         (3, "does not stand there", ROW, "1,4,1,300"), (0, "more than 483,488 bytes", ROWS, ROWS.ljust(LONGEST_ROWS + 1, "\n")))
+
+
+def without_divisors():
+    """The largest sheet with votes along a diagonal alone, for which there are no divisors, though none is soon seen to be missing."""
+    numbers = range(1, 33)
+    lines = ["1 sheet final 1", "house 400", "seats key 1/1", "upper key 1/1"]
+    lines += [f"constituency {d} persons {1000 + 37 * d} seats 12 votes 1 divisor 1.000000 D{d}" for d in numbers]
+    lines += [f"group {g} quorum yes voters 1 seats 12 divisor 1.000000 G{g}" for g in numbers]
+    lines += [f"list {d} {g} votes {1000 + 7 * d + g if d - g in (0, 1) else 0} voters 1 seats 1" for d in numbers for g in numbers]
+    return "\n".join(lines + ["end"]) + "\n"
 
 
 class Limits(Case):
@@ -79,22 +89,9 @@ class Limits(Case):
         sums = self.page.run("return arguments[0].map((length) => sha256(Uint8Array.from({ length }, (_, i) => i % 251)))", lengths)
         self.assertEqual(sums, [hashlib.sha256(bytes(i % 251 for i in range(length))).hexdigest() for length in lengths])
 
-
-def without_divisors():
-    """The largest sheet with votes along a diagonal alone, for which there are no divisors, though none is soon seen to be missing."""
-    numbers = range(1, 33)
-    lines = ["1 sheet final 1", "house 400", "seats key 1/1", "upper key 1/1"]
-    lines += [f"constituency {d} persons {1000 + 37 * d} seats 12 votes 1 divisor 1.000000 D{d}" for d in numbers]
-    lines += [f"group {g} quorum yes voters 1 seats 12 divisor 1.000000 G{g}" for g in numbers]
-    lines += [f"list {d} {g} votes {1000 + 7 * d + g if d - g in (0, 1) else 0} voters 1 seats 1" for d in numbers for g in numbers]
-    return "\n".join(lines + ["end"]) + "\n"
-
-
-class Hostile(Case):
-    """Each takes a time in the order of its length: less than a second, where the machine is free."""
-
     def is_quick(self, *given):
-        """These files, (name, content) each, take little time: the first that is below the limit, or the shortest of some times."""
+        """These files, (name, content) each, take a time in the order of their length, less than a second where the machine is free: it is
+        the first that is below the limit, or the shortest of some."""
         self.assertLess(self.page.run("""
             const [given, limit, yardstick, times] = arguments;
             const bytes = (it) => (typeof it === 'string' ? new TextEncoder().encode(it) : Uint8Array.from(it));
@@ -110,7 +107,7 @@ class Hostile(Case):
             return shortest;
         """, given, MOST, YARDSTICK, TIMES), MOST)
 
-    def test_sheets(self):
+    def test_sheets_take_little_time(self):
         """Also one of bytes that are no text at its end, the largest with each line wrong, and two of them with each list other."""
         for text in (*("\n" * count for count in (60_000, 120_000, 240_000, MIB)), " \n" * 30_000,
                      *(changed(EXAMPLE, "Nord", name) for name in ("x" * 3_900_000, "x" * 279_000, " " * 279_000, "\u202e" * 90_000)),
@@ -122,7 +119,7 @@ class Hostile(Case):
         self.is_quick(("sheet", wrong), ("setup.toml", setup), ("held.csv", held))
         self.is_quick(("sheet", largest), ("another", wrong))
 
-    def test_set_ups_and_rows(self):
+    def test_set_ups_and_rows_take_little_time(self):
         for text in ("house = 10" + " " * 60_000 + "x\n", " " * MIB, "house" + " " * 1_048_000 + "= 1", "\n" * MIB,
                      "stands = [1" + " " * 500_000 + "," + " " * 500_000 + "x]", "[[group]]\nstands = [1" + ",1" * 500_000 + "]\n",
                      'name = "' + "x" * 1_048_000, 'name = "' + "\\\\" * 500_000, "x" * 1_048_000 + " = 1", "#" * MIB,

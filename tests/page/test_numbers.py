@@ -3,7 +3,7 @@ import re
 from fractions import Fraction
 
 import sheets
-from case import EXAMPLE, SETUP, OTHERS, ROWS, Case, changed
+from case import EXAMPLE, OTHERS, ROWS, SETUP, Case, changed
 from sheets import ZURICH
 
 # Numbers and names of a sheet that are forged, one by one.

@@ -4,7 +4,7 @@ import hashlib
 import re
 
 import model
-from case import EXAMPLE, SETUP, LARGEST, ROWS, WRONG_KEY, Case
+from case import EXAMPLE, LARGEST, ROWS, SETUP, WRONG_KEY, Case
 from sheets import ZURICH
 
 CALLED, FEW = "The sheet calls itself “final”", "".join(ROWS.splitlines(keepends=True)[:5])

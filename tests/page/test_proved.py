@@ -10,7 +10,7 @@ import firefox
 import model
 import program
 import sheets
-from case import EXAMPLE, SETUP, LARGEST, OTHERS, ROWS, WRONG, Case
+from case import EXAMPLE, LARGEST, OTHERS, ROWS, SETUP, WRONG, Case
 from cases import turns
 from places import CASES
 from program import utf8

@@ -5,7 +5,7 @@ import subprocess
 
 import browser
 import seals
-from case import EXAMPLE, SETUP, OTHERS, ROWS, WRONG, Case, changed
+from case import EXAMPLE, OTHERS, ROWS, SETUP, WRONG, Case, changed
 from places import TOP
 
 
@@ -65,10 +65,6 @@ class Shown(Case):
         self.assertIn(f"`{told.split()[0]}`", (TOP / "README.md").read_text())
         self.assertEqual(re.findall("[0-9a-f]{8,}", self.page.text("body")), [])
 
-
-class Failing(Case):
-    """The proved check does not run: the page says so, and is never green."""
-
     def another(self, text):
         """A page with this text."""
         path = pathlib.Path(self.page.room.name, "other.html")
@@ -76,6 +72,7 @@ class Failing(Case):
         return browser.Page(self.driver, path)
 
     def fails_with(self, why, page=None, before=""):
+        """The proved check does not run: the page says so, and is never green."""
         page = (page or self.page).sheet(EXAMPLE, *OTHERS, before=before)
         self.bar_is("unsure", "! Not fully checked: right by one check of two")
         self.assertRegex(page.text("#ticks"), "The proved check did not run: " + why)

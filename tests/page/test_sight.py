@@ -4,7 +4,7 @@ import itertools
 import re
 
 import model
-from case import EXAMPLE, SETUP, LARGEST, OTHERS, ROWS, WRONG_KEY, Case, changed
+from case import EXAMPLE, LARGEST, OTHERS, ROWS, SETUP, WRONG_KEY, Case, changed
 from sheets import ZURICH
 
 TURNED, HEBREW = "\u202eX 11", "\u05d0\u05d1 11"

@@ -10,7 +10,7 @@ import pytest
 
 import model
 import sheets
-from case import EXAMPLE, SETUP, ROWS, Case, changed
+from case import EXAMPLE, ROWS, SETUP, Case, changed
 from places import PROGRAM, TOP
 
 FEW = "".join(ROWS.splitlines(keepends=True)[:5])

@@ -4,8 +4,10 @@ import re
 
 from selenium.webdriver.common.keys import Keys
 
-from case import EXAMPLE, SETUP, HOSTILE, LARGEST, OTHER_WORDS, ROWS, WRONG, Case, changed
+from case import EXAMPLE, LARGEST, OTHER_WORDS, ROWS, SETUP, WRONG, Case, changed
 from sheets import ZURICH
+
+HOSTILE = "<img src=x onerror=alert(1)>"
 
 
 class Use(Case):

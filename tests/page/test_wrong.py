@@ -4,7 +4,7 @@ import re
 
 import model
 from browser import By
-from case import EXAMPLE, SETUP, OTHERS, ROWS, Case, changed
+from case import EXAMPLE, OTHERS, ROWS, SETUP, Case, changed
 from sheets import ZURICH
 
 FEW = model.Election(10, [1000], [[600, 370, 30]]).sheet()
@@ -127,10 +127,6 @@ class Wrong(Case):
         for state, line, reason, text in TEXTS:
             with self.subTest(text):
                 self.fails(None, line, reason, text, state=state)
-
-
-class Others(Case):
-    """Beside a set-up, returns and a second sheet."""
 
     def test_another_set_up_and_other_returns(self):
         for part, line, old, new, reason in SET_UPS:
