@@ -77,18 +77,16 @@ function sameSetup(part, sheet, setup) {
     const missing = setup[kind][rows.length];
     if (missing) part.expect(false, rows[rows.length - 1], 'nextMissing', { name: named(missing.name) });
   }
-  const stand = setup.constituencies.flatMap((_, d) => setup.groups.flatMap(({ stands }, g) => (
-    stands.has(d + 1) ? [`${d + 1} ${g + 1}`] : [])));
   for (const list of sheet.lists) {
     const place = `${list.constituency} ${list.group}`;
     part.expect(setup.groups[list.group - 1]?.stands.has(list.constituency), list, 'standsNot', { place });
   }
   const last = { line: sheet.lines.length, text: sheet.lines[sheet.lines.length - 1] };
-  for (const place of stand) {
-    const [d, g] = place.split(' ').map(Number);
-    const next = sheet.lists.find(({ constituency, group }) => constituency > d || (constituency === d && group >= g));
-    part.expect(sheet.at.has(place), next ?? last, 'listMissing', { place });
-  }
+  setup.constituencies.forEach((_, d) => setup.groups.forEach(({ stands }, g) => {
+    const place = `${d + 1} ${g + 1}`;
+    const next = sheet.lists.find(({ constituency, group }) => constituency > d + 1 || (constituency === d + 1 && group > g));
+    if (stands.has(d + 1)) part.expect(sheet.at.has(place), next ?? last, 'listMissing', { place });
+  }));
 }
 
 function votesPart(part, sheet, setup, held) {

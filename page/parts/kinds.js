@@ -85,10 +85,9 @@ function wrongDivisor(sheet, faults) {
   const alone = (row, its, other) => {
     if (row.divisor === null || failing.length === 0 || !failing.every((list) => its.includes(list))) return null;
     const ends = its.map((list) => ({ twice: twiceVotes(list), by: other(list).divisor, seats: list.seats })).filter(({ by }) => by > 0n);
-    const over = (number, unit, seats) => ({ n: number, d: unit * seats });
     if (ends.length === 0) return null;
-    const lows = ends.map(({ twice, by, seats }) => over(twice, by, 2n * seats + 1n));
-    const highs = ends.filter(({ seats }) => seats > 0n).map(({ twice, by, seats }) => over(twice, by, 2n * seats - 1n));
+    const lows = ends.map(({ twice, by, seats }) => ({ n: twice, d: by * (2n * seats + 1n) }));
+    const highs = ends.filter(({ seats }) => seats > 0n).map(({ twice, by, seats }) => ({ n: twice, d: by * (2n * seats - 1n) }));
     const low = lows.reduce((found, one) => (one.n * found.d > found.n * one.d ? one : found));
     const high = highs.reduce((found, one) => (found && found.n * one.d <= one.n * found.d ? found : one), null);
     if (!high || low.n * high.d >= high.n * low.d) return null;

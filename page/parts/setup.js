@@ -69,14 +69,10 @@ function standing(line) {
   }
   const key = along.word(KEY);
   if (key === '' || !along.takes('=')) return null;
-  const begun = along.at;
   const number = along.word(NUMBER);
-  if (number !== '') return along.ends() ? { key, kind: 'number', value: Number(number) } : null;
-  const name = along.quoted();
-  if (name !== null) return along.ends() ? { key, kind: 'name', value: name } : null;
-  along.at = begun;
-  const value = along.numbers();
-  return value !== null && along.ends() ? { key, kind: 'numbers', value } : null;
+  const name = number === '' ? along.quoted() : null;
+  const [kind, value] = number !== '' ? ['number', Number(number)] : name !== null ? ['name', name] : ['numbers', along.numbers()];
+  return value !== null && along.ends() ? { key, kind, value } : null;
 }
 
 // The lines of a text with their numbers, without LF and CR LF.
