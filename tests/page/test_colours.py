@@ -80,13 +80,12 @@ class Colours(Chosen, Case):
         for scheme in ("light", "dark"):
             self.has_medium(scheme=scheme)
             ground = page.one("body").value_of_css_property("background-color")
-            for number in range(1, len(colours) + 1):
-                fill, stroke, on = page.run("""
-                    const [seat, number] = ['.seat', '.number'].map((css) => getComputedStyle(
-                      document.querySelector(`.legend li:nth-child(${arguments[0]}) ${css}`)));
-                    return [seat.fill, seat.stroke, number.fill];
-                """, number)
-                self.assertGreaterEqual(contrast(stroke, ground), 3, (number, scheme))
-                self.assertGreaterEqual(contrast(on, fill), 4.5, (number, scheme))
+            found = page.run("""
+                const styles = (css) => [...document.querySelectorAll(`.legend ${css}`)].map((one) => getComputedStyle(one));
+                return styles('.number').map(({ fill }, i) => [fill, styles('.seat')[i].fill, styles('.seat')[i].stroke]);
+            """)
+            for colour, (on, fill, stroke) in zip(colours, found):
+                self.assertGreaterEqual(contrast(stroke, ground), 3, (colour, scheme))
+                self.assertGreaterEqual(contrast(on, fill), 4.5, (colour, scheme))
         self.at("#1=b00020", EXAMPLE, SETUP, ROWS).proved("right")
         self.bar_is("right", "✓ Right")

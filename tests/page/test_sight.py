@@ -125,31 +125,23 @@ class Sight(Case):
         self.assertIn("(18,446,744,073,709,551,615, it says)", " ".join(page.texts("#why p")))
         self.assertEqual(page.texts("#seats tbody th")[0], "N 2027")
 
-    def readable(self, ground, *texts):
-        """Each text there stands out from its ground, 4.5 to 1."""
-        for css in texts:
-            found = self.page.run("""
-                const [css, ground] = arguments;
-                return [...document.querySelectorAll(css)].map((one) => [getComputedStyle(one).color,
-                  getComputedStyle(one.closest(ground) ?? document.querySelector(ground)).backgroundColor, one.textContent]);
-            """, css, ground)
-            self.assertGreater(len(found), 0, css)
-            for colour, behind, text in found:
-                self.assertGreaterEqual(contrast(colour, behind), 4.5, (css, text))
-
     def test_the_bar_and_the_ticks_can_be_read(self):
-        """In each colour, light and dark."""
-        for scheme in ("dark", "light"):
+        """In each colour, light and dark, each text stands out from its ground, 4.5 to 1."""
+        bar, ticks, election = ("#bar", "#verdict", "#why p", "#kind"), ("li", "#ticks p, #ticks .mark"), ("body", "#election")
+        wrong = changed(EXAMPLE, "voters 230 seats 5", "voters 230 seats 6")
+        for scheme, (proved, places, *files) in itertools.product(("dark", "light"), (
+                *((state, (bar, ticks, election), EXAMPLE, *OTHERS) for state in ("right", "wrong", "absent")),
+                ("alone", [("li", "#ticks .hint, #ticks .mark")], EXAMPLE),
+                ("wrong", [("#bar", "#verdict", "#verdict .mark", "#why p", "#kind .kind")], "1 refused nogroup\n"),
+                ("wrong", [("body", ".legend .said.wrong")], wrong, SETUP))):
             self.has_medium(scheme=scheme)
-            self.page.show(EXAMPLE, *OTHERS)
-            for state in ("right", "wrong", "absent"):
-                self.page.proved(state)
-                self.readable("#bar", "#verdict", "#why p", "#kind")
-                self.readable("li", "#ticks p, #ticks .mark")
-                self.readable("body", "#election")
-            self.page.show(EXAMPLE).proved("alone")
-            self.readable("li", "#ticks .hint, #ticks .mark")
-            self.page.show("1 refused nogroup\n")
-            self.readable("#bar", "#verdict", "#verdict .mark", "#why p", "#kind .kind")
-            self.page.show(changed(EXAMPLE, "voters 230 seats 5", "voters 230 seats 6"), SETUP)
-            self.readable("body", ".legend .said.wrong")
+            self.page.show(*files).proved(proved)
+            for css, ground in ((css, ground) for ground, *texts in places for css in texts):
+                found = self.page.run("""
+                    const [css, ground] = arguments;
+                    return [...document.querySelectorAll(css)].map((one) => [getComputedStyle(one).color,
+                      getComputedStyle(one.closest(ground) ?? document.querySelector(ground)).backgroundColor, one.textContent]);
+                """, css, ground)
+                self.assertGreater(len(found), 0, css)
+                for colour, behind, text in found:
+                    self.assertGreaterEqual(contrast(colour, behind), 4.5, (css, text))
