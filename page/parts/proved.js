@@ -49,7 +49,9 @@ Object.assign(WORDS, {
 // reason for the last two; `text` are the bytes that it wrote.
 const proved = { state: 'none', why: '', text: null, given: [], run: 0, tell: () => {} };
 
-const moduleBytes = () => Uint8Array.from(atob(MODULE), (c) => c.charCodeAt(0));
+function moduleBytes() {
+  return Uint8Array.from(atob(MODULE), (c) => c.charCodeAt(0));
+}
 
 // Ends the worker that is at work, if there is one.
 let endWorker = () => {};

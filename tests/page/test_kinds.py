@@ -20,6 +20,7 @@ def moved(*seats):
     return sheet
 
 
+# Headings and sentences of several.
 OF_DIVISOR, GIVES, NO_CHANGE = "✗ Wrong: a divisor; the seats are right", "it would give these seats", "No seat changes."
 OTHER_SEATS, NOR = "other seats follow from the votes on the sheet: Nord, A 3, not 2.", "Nor does it match the other files:"
 OTHER_VOTES, OTHER_SETUP = "≠ Does not match the returns: other votes", "≠ Does not match the set-up"
