@@ -1,8 +1,10 @@
 """Disks to be read, by docs/FORMATS.md: images that the cases keep, damages that they name, and records at random."""
+import io
 import json
 import re
 
 from cases import coded, repeated
+from counting import Count, random_line
 from places import CASES
 
 DISK_BYTES = 1118720
@@ -11,6 +13,8 @@ for _slot, _place in ((1, 69632), (2, 594176)):
     PLACES.update({f"slot{_slot}": _place, f"slot{_slot}.gate": _place, f"slot{_slot}.generation": _place + 1,
                    f"slot{_slot}.payload": _place + 9, f"journal{_slot}": _place + 262400})
 FORMAT_BYTE = PLACES["slot1.payload"] + 72
+SETUP = [("constituency", 1, "persons", 4), ("municipality", 2, "constituency", 1), ("group", 1, "stands", 4)]
+KINDS = {"return": (1, 6), "withdraw": (2, 7), "close": (3, 3), "reopen": (4, 4), "commit": (5, 8)}  # of records, in both formats
 
 
 def put(disk, place, data):
@@ -46,33 +50,25 @@ def named_damages():
 
 def setup_of(disk):
     """The set-up bytes of a disk as a text for the program; None if they are not of that form."""
-    data = bytearray(disk[4096:4096 + int.from_bytes(disk[11:15], "big")])
-
-    def taken(size):
-        found = bytes(data[:size])
-        del data[:size]
-        return found
+    file = io.BytesIO(disk[4096:4096 + int.from_bytes(disk[11:15], "big")])
 
     def number(size):
-        found = taken(size)
+        found = file.read(size)
         if len(found) < size:
             raise ValueError
         return int.from_bytes(found, "big")
 
-    def name():
-        return f"name = {json.dumps(taken(number(1)).decode(), ensure_ascii=False)}"
-
     try:
         lines = [f"house = {number(2)}"]
-        for _ in range(number(1)):
-            lines += ["[[constituency]]", f"persons = {number(4)}", name()]
-        for _ in range(number(2)):
-            lines += ["[[municipality]]", f"constituency = {number(1)}", name()]
-        for _ in range(number(1)):
-            stands = number(4)
-            lines += ["[[group]]", f"stands = {[it + 1 for it in range(32) if stands >> it & 1]}", name()]
-        head = ["version = 2", f"canton_quorum = {number(2)}"] if data else ["version = 1"]
-        return None if data else "\n".join(head + lines) + "\n"
+        for table, rows, field, size in SETUP:
+            for _ in range(number(rows)):
+                value, name = number(size), file.read(number(1)).decode()
+                if field == "stands":
+                    value = [it + 1 for it in range(32) if value >> it & 1]
+                lines += [f"[[{table}]]", f"{field} = {value}", f"name = {json.dumps(name, ensure_ascii=False)}"]
+        quorum = file.read()
+        head = ["version = 2", f"canton_quorum = {int.from_bytes(quorum, 'big')}"] if quorum else ["version = 1"]
+        return "\n".join(head + lines) + "\n" if len(quorum) in (0, 2) else None
     except ValueError:
         return None
 
@@ -88,47 +84,24 @@ def journal_of(records):
     return pages
 
 
-class Records:
-    """Records at random, most of which a count accepts whose lists stand as `pairs` says: it notes what they come to."""
+def record_of(line, rows, of_format):
+    """The record of a command of desk 1, of a commit with these rows."""
+    word, *numbers = line.split(" ")
+    rows = rows if word == "commit" else [map(int, numbers)]
+    head = bytes([KINDS[word][of_format - 1]])
+    if of_format == 2 and word not in ("close", "reopen"):
+        head += b"\1"
+    if word == "commit":
+        head += len(rows).to_bytes(2, "big")
+    return head + b"".join(it.to_bytes(size, "big") for row in rows for it, size in zip(row, (2, 1, 4, 4)))
 
-    def __init__(self, chance, pairs):
-        self.chance, self.pairs = chance, pairs
-        self.held, self.closed = {}, set()
 
-    def one_in(self, times):
-        return self.chance.randrange(times) == 0
-
-    def pair(self):
-        """A municipality and a list, most often such as may be counted."""
-        if self.one_in(40):
-            return self.chance.randint(0, 5), self.chance.randint(0, 5)
-        able = [pair for pair in self.pairs if pair[0] not in self.closed or self.one_in(10)]
-        return self.chance.choice(able or self.pairs)
-
-    def row(self, pair, withdrawn):
-        number, votes = self.held.get(pair, (0, None))
-        if number == 0 or (votes is None) != withdrawn or not self.one_in(6):
-            number += self.chance.choice((0, 2)) if self.one_in(40) else 1
-            votes = None if withdrawn else self.chance.choice((0, 7, 10**9, 10**9 + self.one_in(10)))
-        self.held[pair] = number, votes
-        end = b"" if withdrawn else votes.to_bytes(4, "big")
-        return pair[0].to_bytes(2, "big") + pair[1].to_bytes(1, "big") + number.to_bytes(4, "big") + end
-
-    def record(self, of_format):
-        kinds = {"return": 1, "withdrawal": 2, "batch": 5, "turn": 3}
-        kind = self.chance.choice(["return", *kinds])
-        if kind == "turn":
-            municipality = self.pair()[0] if self.one_in(2) else self.chance.choice([1, *self.closed])
-            closed = (municipality in self.closed) != self.one_in(40)
-            (self.closed.discard if closed else self.closed.add)(municipality)
-            return bytes([4 if closed else 3]) + municipality.to_bytes(2, "big")
-        pairs = [self.pair() for _ in range(self.chance.choice((1, 2, 5)) if kind == "batch" else 1)]
-        if not self.one_in(40):
-            pairs = list(dict.fromkeys(pairs))
-        data = b"".join(self.row(pair, kind == "withdrawal") for pair in pairs)
-        if kind == "batch":
-            data = len(pairs).to_bytes(2, "big") + data
-        if of_format == 2:
-            kinds = {"return": 6, "withdrawal": 7, "batch": 8}
-            data = bytes([9 if self.one_in(40) else self.chance.randint(0, 8)]) + data
-        return bytes([kinds[kind]]) + data
+def records_of(chance, of_format, length):
+    """So many commands at random as records, most of which a count of the rehearsal accepts."""
+    count, found = Count(), []
+    while len(found) < length:
+        line, rows = random_line(chance, count), count.batches.get("1", [])
+        is_stored = count.answer(f"1 {line}").startswith("stored ")
+        if is_stored or line.split(" ")[0] in KINDS and chance.randrange(100) == 0:
+            found.append(record_of(line, rows, of_format))
+    return found

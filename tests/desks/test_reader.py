@@ -1,6 +1,5 @@
 """zhcount-read beside zhcount: of each disk the script prints what `zhcount export` prints, or both report the same fault; and
 it leaves the file as it is. SEED gives the disks at random."""
-import collections
 import concurrent.futures
 import os
 import pathlib
@@ -17,12 +16,12 @@ import disks
 import places
 from disks import DISK_BYTES, FORMAT_BYTE, PLACES, put
 from places import PROGRAM, ZURICH
-from room import SCRIPTS, Desk, Room
+from room import SCRIPTS, Room, formatted
 
 READER = SCRIPTS / "zhcount-read"
 REHEARSAL = places.REHEARSAL.read_text()
 SEED = int(os.environ.get("SEED", "20270404"))
-ROUNDS = 150  # of the disks at random, for each kind
+ROUNDS = 300  # of the disks at random, for each kind
 SMALL = """version = 2
 house = 7
 canton_quorum = 49
@@ -30,19 +29,14 @@ constituency = [{name = "Ö,\\"", persons = 10000000}, {name = "b", persons = 1}
 municipality = [{name = "1", constituency = 2}, {name = "2", constituency = 1}, {name = "3", constituency = 2}]
 group = [{name = "A", stands = [1, 2]}, {name = "B", stands = [2]}, {name = "C", stands = [2, 1]}, {name = "D", stands = [1]}]
 """
-SMALL_PAIRS = [(1, 1), (1, 2), (1, 3), (2, 1), (2, 3), (2, 4), (3, 1), (3, 2), (3, 3)]
 WIDEST = "\n".join(["version = 1", "house = 400", *(f'[[constituency]]\nname = "{it:040}"\npersons = 1' for it in range(32)),
                     *(f'[[municipality]]\nname = "{it:040}"\nconstituency = {it % 32 + 1}' for it in range(512)),
                     *(f'[[group]]\nname = "{it:040}"\nstands = {list(range(1, 33))}' for it in range(32))])
 
 
-def run(words, **more):
-    return subprocess.run([str(it) for it in words], capture_output=True, **more)
-
-
-def said(words):
+def said(*words):
     """The fault that a program reports, its first two words, or none; and what it writes."""
-    ran = run(words, stdin=subprocess.DEVNULL)
+    ran = subprocess.run(words, stdin=subprocess.DEVNULL, capture_output=True)
     fault = re.match(rb"zhcount(?:-read)?: (\w+ ?\w*)", ran.stderr)
     assert (ran.returncode, bool(fault)) == (1 if ran.stderr else 0, bool(ran.stderr)), "the status"
     if READER in words:
@@ -53,7 +47,7 @@ def said(words):
 def read(path):
     """As `said`, of the script, which leaves the file as it is."""
     before = path.read_bytes(), path.stat().st_mtime_ns
-    found = said([sys.executable, READER, path])
+    found = said(sys.executable, READER, path)
     assert (path.read_bytes(), path.stat().st_mtime_ns) == before, "the file"
     return found
 
@@ -62,66 +56,33 @@ def export(path, setup):
     """As `said`, of the program."""
     place = path.with_suffix(".toml")
     place.write_text(setup)
-    return said([PROGRAM, "export", "--setup", place, "--disk", path])
+    return said(PROGRAM, "export", "--setup", place, "--disk", path)
 
 
-def compare(title, disk, setup=None):
+def compare(title, disk, setup=REHEARSAL):
     """Both read the disk; the program with the set-up that its bytes spell, where they do, or else with this one."""
     with tempfile.TemporaryDirectory() as room:
-        first, second = pathlib.Path(room, "script"), pathlib.Path(room, "program")
-        first.write_bytes(disk)
-        second.write_bytes(disk)
+        path = pathlib.Path(room, "disk")
+        path.write_bytes(disk)
         try:
-            wanted = export(second, disks.setup_of(disk) or setup or REHEARSAL)
+            found, wanted = read(path), export(path, disks.setup_of(disk) or setup)
             if wanted[0].startswith("setup "):
-                wanted = export(second, setup or REHEARSAL)
-            assert read(first) == wanted, "what is read"
+                wanted = export(path, setup)
+            assert found == wanted, "what is read"
             if not wanted[0]:  # the export may have taken the disk over into format 2
-                assert read(second) == wanted, "what is read after the export"
+                assert read(path) == wanted, "what is read after the export"
         except AssertionError as different:
             raise AssertionError(f"{title}: {different}") from None
     return wanted[0] or "exported"
 
 
-def formatted(setup, *parts):
-    """The disk of this set-up after each part of these lines, which have to be stored."""
-    with Room(setup) as room:
-        yield room.disk.read_bytes()
-        for part in parts:
-            answers = room.zhcount("run", given="\n".join(part))
-            assert re.findall(r"\d (?!stored|held).*", answers) == [], "the answers that do not store"
-            yield room.disk.read_bytes()
-
-
 def fresh(setup):
-    return next(formatted(setup))
-
-
-def returned(chance, count):
-    """Lines for the rehearsal, each a command that is accepted: returns, withdrawals, closings, and batches of three rows."""
-    numbers, lines = collections.Counter(), []
-    for line in range(count):
-        municipality, group = chance.randint(1, 3), chance.randint(1, 3)
-        if line % 50 in (48, 49):
-            lines.append([f"1 {'close' if line % 50 == 48 else 'reopen'} 2"])
-            continue
-        groups = (1, 2, 3) if line % 17 == 3 else (group,)
-        for each in groups:
-            numbers[municipality, each] += 1
-        if len(groups) == 3:
-            rows = [f"2 row {municipality} {each} {numbers[municipality, each]} {chance.randint(0, 10**9)}" for each in groups]
-            lines.append(["2 open", *rows, "2 commit"])
-        elif line % 13 == 5:
-            lines.append([f"8 withdraw {municipality} {group} {numbers[municipality, group]}"])
-        else:
-            lines.append([f"3 return {municipality} {group} {numbers[municipality, group]} {chance.randint(0, 10**9)}"])
-    return lines
+    return formatted(setup).read_bytes()
 
 
 def empty():
     """Fresh disks, and what is not formatted."""
-    setups = [REHEARSAL, SMALL, WIDEST, (ZURICH / "setup.toml").read_text(),
-              cantons.Canton(cantons.Chance(SEED)).setup()]
+    setups = [REHEARSAL, SMALL, WIDEST, (ZURICH / "setup.toml").read_text(), cantons.Canton(cantons.Chance(SEED)).setup()]
     for place, setup in enumerate(setups):
         yield f"the fresh disk {place}", fresh(setup), setup
     yield "zeros", bytes(DISK_BYTES)
@@ -129,30 +90,22 @@ def empty():
         yield f"{length} bytes", bytes(length)
 
 
-def thousands():
-    """A disk on which more commands are stored than a journal has pages, before and after each switch."""
-    lines = returned(random.Random(SEED), 3500)
-    ends = (0, 100, 1023, 1024, 1025, 2048, 2049, 3072, 3073, 3500)
-    parts = [sum(lines[begin:end], []) for begin, end in zip(ends, ends[1:])]
-    for end, disk in zip(ends, formatted(REHEARSAL, *parts)):
-        yield f"after {end} commands", disk
-
-
 def widest():
     """Every return of the widest set-up, in batches of 1,000 rows; then as many returns as lead to a switch."""
-    pairs = [(municipality, group) for municipality in range(1, 513) for group in range(1, 33)]
+    rows = [f"row {m} {g} 1 {10**9 - m * g}" for m in range(1, 513) for g in range(1, 33)]
     batches = []
-    for begin in range(0, len(pairs), 1000):
-        batches += ["1 open", *(f"1 row {m} {g} 1 {10**9 - m * g}" for m, g in pairs[begin:begin + 1000]), "1 commit"]
-    later = [f"5 withdraw 512 32 {number}" for number in range(2, 402)]
-    for place, disk in enumerate(formatted(WIDEST, batches, later)):
-        yield f"the widest set-up, part {place}", disk
+    for begin in range(0, len(rows), 1000):
+        batches += ["open", *rows[begin:begin + 1000], "commit"]
+    with Room(WIDEST) as room:
+        for title, lines in ("full", batches), ("after a switch", [f"withdraw 512 32 {number}" for number in range(2, 402)]):
+            assert re.findall(r"1 (?!stored|held).*", room.by_hand(*lines)) == [], "the answers that do not store"
+            yield f"the widest set-up, {title}", room.disk.read_bytes()
 
 
 def named():
-    """The damages that the cases name, on a fresh disk, on one with returns, and on one of format 1."""
-    *_, used = formatted(REHEARSAL, sum(returned(random.Random(SEED), 9), []))
-    bases = {"fresh": fresh(REHEARSAL), "used": used, "format 1": dict(disks.kept_images())["kept_images.case: few.disk"]}
+    """The damages that the cases name, on a fresh disk, and on one with returns of each format."""
+    images = dict(disks.kept_images())
+    bases = {"fresh": fresh(REHEARSAL), **{it: images[f"kept_images.case: {it}.disk"] for it in ("few", "few-2")}}
     for base, disk in bases.items():
         for title, (place, data) in disks.named_damages().items():
             yield f"{base}, {title}", put(disk, place, data)
@@ -161,9 +114,9 @@ def named():
 def damaged():
     """Bytes at random at places that matter, on used disks of both formats and of both slots."""
     chance, images = random.Random(SEED), dict(disks.kept_images())
-    *_, used = formatted(REHEARSAL, sum(returned(chance, 60), []))
+    used = put(fresh(REHEARSAL), PLACES["journal1"], disks.journal_of(disks.records_of(chance, 2, 60)))
     bases = [used, images["kept_images.case: kinds.disk"], images["kept_images.case: both.disk"], fresh(SMALL)]
-    for count in range(2 * ROUNDS):
+    for count in range(ROUNDS):
         disk, places = chance.choice(bases), []
         for _ in range(chance.choice((1, 1, 2))):
             slot = chance.choice("12")
@@ -180,17 +133,16 @@ def damaged():
 def records():
     """Records at random, in both formats, in either slot."""
     chance = random.Random(SEED)
-    disk = fresh(SMALL)
-    for count in range(2 * ROUNDS):
-        made, of_format = disks.Records(chance, SMALL_PAIRS), 1 + count % 2
-        wanted = [made.record(of_format) for _ in range(chance.randint(1, 12))]
+    for count in range(ROUNDS):
+        of_format = 1 + count % 2
+        wanted = disks.records_of(chance, of_format, chance.randint(1, 20))
         if chance.randrange(20) == 0:
             wanted[-1] = wanted[-1][:-1] + b"\0" * chance.randrange(3)
-        image = put(disk, FORMAT_BYTE, bytes([0 if of_format == 1 else 2]))
+        image = put(fresh(REHEARSAL), FORMAT_BYTE, b"\0" if of_format == 1 else b"\2")
         image = put(image, PLACES["journal1"], disks.journal_of(wanted))
         if chance.randrange(2):
-            slot = image[PLACES["slot1"]:PLACES["slot2"]]
-            image = put(image, PLACES["slot2"], put(slot, 1, (2).to_bytes(8, "big")))
+            image = put(image, PLACES["slot2"], image[PLACES["slot1"]:PLACES["slot2"]])
+            image = put(image, PLACES["slot2.generation"], (2).to_bytes(8, "big"))
             image = put(image, PLACES["journal1"], bytes(1024))
         yield f"records {count}, {[it.hex() for it in wanted]}", image
 
@@ -214,6 +166,7 @@ def odd():
         ("a withdrawal of no municipality", "070100000100000001"),
         ("a batch of one row by desk 0", "08000001" + held_row),
         ("a batch of no rows", "08010000"),
+        ("a return by desk 9", "0609" + held_row),
         ("a record of no kind", "00"),
         ("a gap", held, "0601000101000000030000000a"),
         ("too many votes", "060100010100000001" + "3b9aca01"),
@@ -256,8 +209,8 @@ def setups():
 
 # The outcomes of each that there have to be.
 DISKS = {
-    disks.kept_images: {"exported", "disk size"}, empty: {"exported", "disk blank", "disk size"}, thousands: {"exported"},
-    widest: {"exported"}, named: {"exported", "disk blank", "disk damaged", "disk differs"},
+    disks.kept_images: {"exported", "disk size"}, empty: {"exported", "disk blank", "disk size"}, widest: {"exported"},
+    named: {"exported", "disk blank", "disk damaged", "disk differs"},
     damaged: {"exported", "disk blank", "disk damaged", "disk differs"}, records: {"exported", "disk damaged"},
     odd: {"exported", "disk damaged", "disk blank"}, setups: {"exported", "disk damaged", "disk differs"},
 }
@@ -272,35 +225,26 @@ def test_disks(source):
 
 
 def test_kinds_of_files(tmp_path):
-    """Paths at which there is no disk."""
+    """Paths at which there is no disk, and a link to one that is only read."""
     os.mkfifo(tmp_path / "pipe")
     (tmp_path / "link").symlink_to("nothing")
     (tmp_path / "setup").write_text(REHEARSAL)
     for path in (*(tmp_path / it for it in (".", "pipe", "link", "none", "setup/disk")), pathlib.Path("/dev/null")):
-        words = [PROGRAM, "export", "--setup", tmp_path / "setup", "--disk", path]
-        assert said([sys.executable, READER, path]) == said(words), f"what is read at {path}"
+        wanted = said(PROGRAM, "export", "--setup", tmp_path / "setup", "--disk", path)
+        assert said(sys.executable, READER, path) == wanted, f"what is read at {path}"
     (tmp_path / "disk").write_bytes(fresh(REHEARSAL))
     (tmp_path / "other").symlink_to("disk")
     (tmp_path / "disk").chmod(0o400)
     assert read(tmp_path / "other") == ("", b"municipality,list,number,votes\n"), "what is read through a link"
-    assert sorted(it.name for it in tmp_path.iterdir()) == ["disk", "link", "other", "pipe", "setup"], "the folder"
+    assert sorted(os.listdir(tmp_path)) == ["disk", "link", "other", "pipe", "setup"], "the folder"
 
 
-def test_arguments_and_streams(tmp_path):
+@pytest.mark.parametrize("words, status, fault", [
+    *((it, 2, b"usage: zhcount-read DISK\n") for it in ("", "a b", "--help", "-h", "--disk a")),
+    *((it, 1, b"zhcount-read: write\n") for it in ("disk > /dev/full", "disk >&-")),
+])
+def test_arguments_and_streams(tmp_path, words, status, fault):
     """Wrong arguments, and a standard output that takes nothing."""
-    for words in ([], ["a", "b"], ["--help"], ["-h"], ["--disk", "a"]):
-        ran = run([sys.executable, READER, *words])
-        assert (ran.returncode, ran.stdout, ran.stderr) == (2, b"", b"usage: zhcount-read DISK\n"), f"what {words} gets"
     (tmp_path / "disk").write_bytes(fresh(REHEARSAL))
-    for end in ("> /dev/full", ">&-"):
-        ran = run(["sh", "-c", f'exec "$0" "$1" "$2" {end}', sys.executable, READER, tmp_path / "disk"])
-        assert (ran.returncode, ran.stderr) == (1, b"zhcount-read: write\n"), f"a fault with {end}"
-
-
-def test_beside_a_run(new_room):
-    """What `run` has acknowledged is read while it has the disk."""
-    office = new_room.process(Desk, [PROGRAM, "run", "--setup", new_room.setup, "--disk", new_room.disk])
-    for votes in range(1, 4):
-        office.talk(f"1 return 1 1 {votes} {votes} -> 1 stored {votes}")
-        assert read(new_room.disk) == ("", b"municipality,list,number,votes\n1,1,%d,%d\n" % (votes, votes)), "what is read"
-    assert office.end() == 0, "the status of run"
+    ran = subprocess.run(f"'{sys.executable}' '{READER}' {words}", shell=True, cwd=tmp_path, capture_output=True)
+    assert (ran.returncode, ran.stdout, ran.stderr) == (status, b"", fault)
