@@ -1,7 +1,6 @@
 """What an office puts into `now`, and a room whose office does so more often."""
 import contextlib
 import csv
-import functools
 import io
 import os
 import pathlib
@@ -17,17 +16,21 @@ CLOSINGS = ["close 1", "close 2", "close 3"]
 NEVER = 3600  # seconds
 HEAD = "number,at,start,desk,turn,line,answer,answered_at"  # of lines.csv
 UNCONFIRMED = "municipality,list,number,votes,desk,municipality_name,list_name\n"
+# The files of `now`, each with the task of the program that writes it.
+FILES = {"status": "status", "missing": "status --missing", "implausible": "status --implausible", "held.csv": "export",
+         "votes.csv": "votes", "vote-groups.csv": "votes --of groups"}
+SEATS = {"seats": "seats --table", "seats.csv": "seats", "seat-groups.csv": "seats --of groups",
+         "seat-constituencies.csv": "seats --of constituencies"}
 
 
 class QuickRoom(Room):
-    """A room whose office copies the disk more often, has another patience with a child, gives that as much of the processor as itself,
-    and says each text each time."""
+    """A room whose office copies the disk more often, has more patience with a child, gives that as much of the processor as itself, and
+    says each text each time."""
 
-    def __init__(self, every=0.2, longest=600, priority=0, **more):
+    def __init__(self, every=0.2, priority=0, **more):
         super().__init__(**more)
         self.held = self.path / "held"
-        edits = [("now", "EVERY", every), ("now", "LONGEST", longest), ("now", "PRIORITY", priority), ("stream", "QUIET", 0)]
-        for file, name, value in edits:
+        for file, name, value in [("now", "EVERY", every), ("now", "LONGEST", 600), ("now", "PRIORITY", priority), ("stream", "QUIET", 0)]:
             self.edit_script(f"zhcount_{file}.py", rf"^{name} = \S+", f"{name} = {value}")
 
     def on_copies(self, task):
@@ -51,13 +54,9 @@ class QuickRoom(Room):
         self.edit_script("zhcount_now.py", r"^LONGEST = \S+", f'LONGEST = type("Longest", (float,), {{"__radd__": {added}}})()')
         return late
 
-    def child(self, word=""):
-        """The process that writes what follows from a copy, below the office; 0 where there is none. Or another one, by a word."""
-        if word:
-            return super().child(word)
-        pid = self.office.process.pid
-        children = pathlib.Path(f"/proc/{pid}/task/{pid}/children").read_text().split()
-        return next((int(it) for it in children if b"zhcount_now" in command_of(it)), 0)
+    def child(self, word="-B"):
+        """The process that writes what follows from a copy, of all below the office the one with this flag; 0 where there is none."""
+        return super().child(word)
 
     def working(self):
         """The process of the child that is at work. (What the system says of the children of a process may lack one.)"""
@@ -90,38 +89,36 @@ def names_of_now(room):
     return sorted(it.name.rpartition("-")[0] or it.name for it in room.folder.iterdir() if it.name.startswith("now"))
 
 
-def model(room, lines, final=()):
-    """What the program says of a disk with these lines: of each file of `now` the content, those that may be published last. `final` are
-    the flags of seats of a final sheet."""
-    ran = functools.partial(room.ran, disk=room.other_disk(*lines))
-    status, seats = ran("status"), ran("seats", "--table", *final)
-    if seats.stdout:
-        tables = {"seats.csv": ran("seats", *final).stdout,
-                  **{f"seat-{it}.csv": ran("seats", "--of", it, *final).stdout for it in ("groups", "constituencies")}}
-    return {"status": status.stdout, "sums": status.stderr, "missing": ran("status", "--missing").stdout,
-            "implausible": ran("status", "--implausible").stdout, "seats": seats.stdout or seats.stderr,
-            "held.csv": ran("export").stdout, "votes.csv": ran("votes").stdout,
-            "vote-groups.csv": ran("votes", "--of", "groups").stdout, **(tables if seats.stdout else {"no-seats": seats.stderr})}
+def model(room, lines, line="sheet"):
+    """What the program says of a disk with these lines: of each file of `now` the content, and of each of `publish`, without the page. The
+    seats are those of a sheet that this line asks for."""
+    disk = room.other_disk(*lines)
+    flags = ["--final"] if line == "final" else []
+    ran = {name: room.ran(*words.split(" "), disk=disk) for name, words in FILES.items()}
+    seats = {name: room.ran(*words.split(" "), *flags, disk=disk) for name, words in SEATS.items()}
+    files = {"sums": ran["status"].stderr, **{name: it.stdout for name, it in ran.items()}}
+    published = {"setup.toml": room.setup.read_text()}
+    if seats["seats"].stdout:
+        files.update({name: it.stdout for name, it in seats.items()})
+        published["sheet.txt"] = room.zhcount("run", disk=disk, given=f"1 {line}\n")
+    else:
+        files.update({name: seats["seats"].stderr for name in ("seats", "no-seats")})
+    published.update({name: text for name, text in files.items() if name.endswith(".csv") or name == "no-seats"})
+    return files, published
 
 
-def published(room, files, line="sheet"):
-    """Likewise of each file of `publish`, without the page, by those of the model that was made last."""
-    found = {name: text for name, text in files.items() if name.endswith(".csv") or name == "no-seats"}
-    if "no-seats" not in files:
-        found["sheet.txt"] = room.zhcount("run", disk=room.path / "other.disk", given=f"1 {line}\n")
-    return {**found, "setup.toml": room.setup.read_text()}
-
-
-def compare(room, lines, unconfirmed=None, shown=None):
+def compare(room, lines, unconfirmed=None, shown=1000):
     """Waits for the `now` after these lines of desk 1, all stored. Its files are those of the lines; where it is not given, what
-    is unconfirmed is that too, and the lines in its table are all. The folder."""
-    now, copy, files = room.shows(len(lines)), room.path / "copy.disk", model(room, lines)
-    wanted = {**files, "unconfirmed": UNCONFIRMED + (table_of(lines) if unconfirmed is None else unconfirmed),
-              "lines.csv": "".join(table_of_lines(room.folder).splitlines(keepends=True)[:None if shown is None else shown + 1])}
+    is unconfirmed is that too, and so many lines are in its table. The folder."""
+    now, (files, published) = room.shows(len(lines)), model(room, lines)
+    if unconfirmed is None:
+        rows = [it.split(" ")[1:] for it in lines]
+        unconfirmed = "".join(f"{','.join(row)},1,{' NMW'[int(row[0])]},{' ABC'[int(row[1])]}\n" for row in rows)
+    wanted = {**files, "unconfirmed": UNCONFIRMED + unconfirmed, "lines.csv": table_of_lines(room.folder, shown)}
     compare_folder(now, wanted, ["disk", "publish"])
-    compare_folder(now / "publish", published(room, files))
-    shutil.copyfile(now / "disk", copy)
-    assert room.zhcount("export", disk=copy) == wanted["held.csv"], "the copy of the disk"
+    compare_folder(now / "publish", published)
+    copy = shutil.copyfile(now / "disk", room.path / "copy.disk")
+    assert room.zhcount("export", disk=copy) == files["held.csv"], "the copy of the disk"
     return now
 
 
@@ -132,22 +129,15 @@ def compare_folder(folder, wanted, others=()):
     assert sorted(it.name for it in folder.iterdir()) == sorted([*wanted, *others]), f"nothing else is in {folder.name}"
 
 
-def table_of_lines(folder):
-    """What lines.csv has to have of all lines of a log that have an answer."""
-    table, start, lines = io.StringIO(), 0, {}
-    writer = csv.writer(table, lineterminator="\n")
-    writer.writerow(HEAD.split(","))
+def table_of_lines(folder, shown=1000):
+    """What lines.csv has to have of the lines of a log that have an answer, up to so many."""
+    rows, start, lines, table = [HEAD.split(",")], 0, {}, io.StringIO()
     for it in events(folder):
         start += it.kind == "start"
         if it.kind == "line":
             lines[it.desk] = it
         elif it.kind == "answer":
             line = lines[it.desk]
-            writer.writerow([line.number, line.at, start, line.desk, line.turn, line.text, it.text, it.at])
+            rows.append([line.number, line.at, start, line.desk, line.turn, line.text, it.text, it.at])
+    csv.writer(table, lineterminator="\n").writerows(rows[:shown + 1])
     return table.getvalue()
-
-
-def table_of(lines):
-    """What is unconfirmed after these returns of desk 1."""
-    rows = [it.split(" ")[1:] for it in lines]
-    return "".join(",".join([*row, "1", " NMW"[int(row[0])], " ABC"[int(row[1])]]) + "\n" for row in rows)

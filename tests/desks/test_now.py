@@ -1,51 +1,45 @@
-"""Tests of what an office puts into its folder while it runs: the sheets, and `now`, with what follows from a copy of the disk."""
+"""Tests of what an office puts into its folder while it runs: the sheets, and `now`, with what follows from a copy of the disk: among it
+what can be published, and what differs from the totals that the municipalities state."""
+import shutil
 import stat
 import subprocess
 
 import pytest
 
-from logs import noted
-from nights import Night
-from now import CLOSINGS, HEAD, NEVER, RETURNS, UNCONFIRMED, QuickRoom, compare, link_of, model, names_of_now, table_of, table_of_lines
-from places import PROGRAM
+from logs import Written
+from now import CLOSINGS, NEVER, RETURNS, UNCONFIRMED, QuickRoom, compare, compare_folder, link_of, model, names_of_now, table_of_lines
+from places import PROGRAM, REHEARSAL, TOP
 from processes import until
 from room import running
 
 ROOM = QuickRoom
+DIFFERS = "municipality,held_votes,stated_votes,municipality_name,remark\n"
 
 
-# Sheets
+def text_of(room, name):
+    """A file of the newest copy, if there is one."""
+    path = room.folder / "now" / name
+    return path.read_text() if path.exists() else ""
+
+
+def shows_text(room, name, wanted):
+    until(lambda: f"it shows {wanted}, and not {text_of(room, name)}", lambda: text_of(room, name) == wanted)
 
 
 def test_sheets():
-    """what a desk shows as a sheet, and the sheet in the folder, are the sheet of run, and check says that it is right"""
+    """the newest sheet of each kind is in the folder as run makes it, with its desk, and the group may read it"""
     with running(QuickRoom(every=NEVER)) as room:
-        answers = [*(f"stored {it}" for it in range(1, 10)), "shows 1 525", "refused notclosed 1"]
-        assert room.ask(2, *RETURNS, "show 1 1", "final").out == answers, "other answers have no desk"
-        held = room.path / "held.csv"
-        for desk, before, line, name in [(2, [], "sheet", "sheet-9"), (1, CLOSINGS, "final", "sheet-final-12")]:
-            held.write_text(model(room, [*RETURNS, *before])["held.csv"])
-            ran = room.zhcount("run", disk=room.path / "other.disk", given=f"{desk} {line}\n")
-            assert room.ask(desk, *before, line).out[len(before):] == ran.split("\n")[:-1], f"the answer to {line}"
-            sheet = room.folder / name
-            until(name, sheet.exists)
-            assert sheet.read_text() == ran, name
+        lines, kept = [], set()
+        for desk, more, line, names in [(2, RETURNS, "sheet", {"sheet-9"}), (1, CLOSINGS, "final", {"sheet-9", "sheet-final-12"}),
+                                        (3, [], "sheet", {"sheet-12", "sheet-final-12"})]:
+            lines += more
+            room.ask(desk, *more, line)
+            until("only the newest stays", lambda: {it.name for it in room.folder.glob("sheet*")} == names)
+            sheet, = (room.folder / it for it in names - kept)
+            wanted = room.zhcount("run", disk=room.other_disk(*lines), given=f"{desk} {line}\n")
+            assert sheet.read_text() == wanted, sheet.name
             assert stat.filemode(sheet.stat().st_mode) == "-rw-r-----", "its mode"
-            words = [PROGRAM, "check", "--setup", room.setup, "--sheet", sheet, "--held", held]
-            assert b"sheet ok" in subprocess.run(words, stdout=subprocess.PIPE).stdout, "it is right"
-        assert kept_sheets(room) == {"sheet-9", "sheet-final-12"}, "the newest of each kind"
-        assert room.ask(3, "sheet").out[0] == "3 sheet provisional 12", "another one"
-        until("only the newest stays", lambda: kept_sheets(room) == {"sheet-12", "sheet-final-12"})
-        assert (room.folder / "sheet-12").read_text().startswith("3 sheet provisional 12\n"), "its desk"
-        assert "before: sheet: 3 sheet provisional 12" in room.ask(3, "show 1 1").said(), "a new connection says it"
-        whole = "\n".join(room.ask(3, "sheet").out)
-        room.stop()
-        assert room.of_desk(3)[-1][1] == noted(whole[2:]), "the log has its first line, its length and its sum, without its desk"
-        room.check()
-
-
-def kept_sheets(room):
-    return {it.name for it in room.folder.iterdir() if it.name.startswith("sheet")}
+            kept = names
 
 
 # What follows from a copy
@@ -63,8 +57,6 @@ def test_files_of_a_copy(room):
     (room.folder / "witness").write_text("no witness since ..\n")
     room.ask(1, "return 1 1 2 526")
     assert (room.shows(6) / "witness").read_text() == "no witness since ..\n", "what is said of the witness"
-    room.stop()
-    assert names_of_now(room) == ["now", "now-6"], "`now` stays"
     room.check()
 
 
@@ -83,112 +75,160 @@ def test_the_end():
         assert ',"x,""y""",refused syntax,' in last, f"the last line is there: {last}"
         room.start()
         compare(room, RETURNS)
-        room.stop()
 
 
 def test_lines(room):
     """lines.csv has each line that was shown, whatever it says, with its answer; of a sheet what the log has"""
-    lines = ["show 1 1", "x, \"y\" z", "\xff\t\\", "sheet", *RETURNS, "sheet", "return 1 1 2 526"]
-    room.ask(3, *lines)
+    room.ask(3, "show 1 1", "x, \"y\" z", "\xff\t\\", "sheet", *RETURNS, "sheet", "return 1 1 2 526")
     wanted = table_of_lines(room.folder)
-    assert wanted.split("\n")[0] == HEAD, "its head"
-    until("all lines are there", lambda: lines_of(room) == wanted)
+    until("all lines are there", lambda: text_of(room, "lines.csv") == wanted)
     room.restart()
     room.ask(2, "show 1 1")
     wanted = table_of_lines(room.folder)
-    until("those of two starts are there", lambda: lines_of(room) == wanted)
+    until("those of two starts are there", lambda: text_of(room, "lines.csv") == wanted)
     assert wanted.splitlines()[-1].split(",")[2:4] == ["2", "2"], "the start of the last one"
-    room.stop()
-
-
-def lines_of(room):
-    path = room.folder / "now/lines.csv"
-    return path.read_text() if path.exists() else ""
-
-
-class LongNight(Night, QuickRoom):
-    """A night with a hundred thousand lines."""
-
-    def __init__(self):
-        super().__init__()
-        self.begin()
-        for number in range(100_000):
-            desk, turn = number % 8 + 1, number // 8 + 1
-            self.log.add("line", f"x {number}", desk, turn)
-            self.log.add("answer", "refused syntax", desk, turn)
-        self.turns = dict.fromkeys(range(1, 9), 100_000 // 8)
-        self.put()
 
 
 @pytest.mark.long
-def test_a_hundred_thousand_lines():
+def test_a_hundred_thousand_lines(new_room):
     """a hundred thousand lines are all in lines.csv, and meanwhile desks are answered"""
-    with LongNight() as night:
-        night.start()
-        assert night.ask(1, RETURNS[0]).out == ["stored 1"]
-        now = night.shows(1)
-        assert (now / "lines.csv").read_text().count("\n") == 100_002, "the lines"
-        night.desk(2).talk("show 1 1 -> shows 1 525")
-        night.stop()
-
-
-# Who has entered what
-
-
-def test_unconfirmed_returns(new_room):
-    """what one desk alone has entered is unconfirmed, until another desk sends the same; a name that needs quotation marks has them"""
-    new_room.setup.write_text(new_room.setup.read_text().replace('name = "N"', 'name = "N, \\"n\\""'))
-    new_room.disk.unlink()
-    new_room.zhcount("format")
-    assert new_room.load("3,1,1,90", "3,2,1,60") == "stored 1\n", "what is loaded"
-    new_room.zhcount_office("--take", new_room.setup, new_room.disk, new_room.folder)
+    log = Written(new_room.folder)
+    log.add("setup", new_room.setup.read_text())
+    log.add_facts("start")
+    for number in range(100_000):
+        desk, turn = number % 8 + 1, number // 8 + 1
+        log.add("line", f"x {number}", desk, turn)
+        log.add("answer", "refused syntax", desk, turn)
+    log.put()
     new_room.start()
-    desks = {it: new_room.desk(it) for it in range(1, 8)}
-    for desk, *exchanges in [
-            (1, "return 1 1 1 525 -> stored 2", "return 1 1 1 525 -> same"),
-            (1, "return 1 2 1 300 -> stored 3"), (2, "return 1 2 1 300 -> same"),
-            (1, "return 1 3 1 175 -> stored 4"), (2, "return 1 3 1 157 -> refused conflict"),
-            (4, "open -> held 0", "row 2 1 1 240 -> held 1", "row 2 2 1 330 -> held 2", "commit -> stored 5"),
-            (5, "open -> held 0", "row 2 1 1 240 -> held 1", "commit -> same"), (6, "open -> held 0", "row 2 2 1 330 -> held 1"),
-            (7, "open -> held 0", "row 2 2 1 330 -> held 1", "drop -> dropped 1"),
-            (1, "withdraw 2 3 1 -> stored 6"), (3, "return 3 1 1 90 -> same")]:
-        desks[desk].talk(*exchanges)
-    rows = ['1,1,1,525,1,"N, ""n""",A\n', '1,3,1,175,1,"N, ""n""",C\n', "2,2,1,330,4,M,B\n", "2,3,1,withdrawn,1,M,C\n", "3,2,1,60,-,W,B\n"]
-    shows_unconfirmed(new_room, 6, rows)
-    for desk, line in [(2, "return 1 1 1 525"), (3, "return 3 2 1 60"), (4, "withdraw 2 3 1")]:
-        desks[desk].talk(f"{line} -> same")
-    shows_unconfirmed(new_room, 6, rows[1:3])
-    desks[6].talk("row 1 1 2 530 -> held 2", "commit -> stored 7")  # one row of the batch is new
-    shows_unconfirmed(new_room, 7, ['1,1,2,530,6,"N, ""n""",A\n', rows[1]])
-    desks[2].talk("return 1 1 2 530 -> same")
-    shows_unconfirmed(new_room, 7, rows[1:2])
+    assert new_room.ask(1, RETURNS[0], "show 1 1").out == ["stored 1", "shows 1 525"]
+    until("all lines are there", lambda: text_of(new_room, "lines.csv").count("\n") == 100_003)
+
+
+def test_unconfirmed():
+    """what one desk alone has entered is unconfirmed, also if a stop came before its answer, until another desk sends the same; a name that
+    needs quotation marks has them"""
+    with QuickRoom(setup=REHEARSAL.read_text().replace('name = "N"', 'name = "N, \\"n\\""')) as room:
+        assert room.load("3,1,1,90", "3,2,1,60") == "stored 1\n", "what is loaded"
+        room.zhcount_office("--take", room.setup, room.disk, room.folder)
+        room.start()
+        desks = {it: room.desk(it) for it in range(1, 8)}
+        kept_by_a_stop(room, desks[1], "return 1 1 1 525", "stored 2")
+        desks[4].talk("open -> held 0", "row 2 1 1 240 -> held 1", "row 2 2 1 330 -> held 2")
+        kept_by_a_stop(room, desks[4], "commit", "stored 3")
+        for desk, *exchanges in [
+                (1, "return 1 1 1 525 -> same", "return 1 2 1 300 -> stored 4"), (2, "return 1 2 1 300 -> same"),
+                (1, "return 1 3 1 175 -> stored 5"), (2, "return 1 3 1 157 -> refused conflict"),
+                (5, "open -> held 0", "row 2 1 1 240 -> held 1", "commit -> same"), (6, "open -> held 0", "row 2 2 1 330 -> held 1"),
+                (7, "open -> held 0", "row 2 2 1 330 -> held 1", "drop -> dropped 1"),
+                (1, "withdraw 2 3 1 -> stored 6"), (3, "return 3 1 1 90 -> same")]:
+            desks[desk].talk(*exchanges)
+        rows = ['1,1,1,525,1,"N, ""n""",A\n', '1,3,1,175,1,"N, ""n""",C\n', "2,2,1,330,4,M,B\n", "2,3,1,withdrawn,1,M,C\n",
+                "3,2,1,60,-,W,B\n"]
+        shows_text(room, "unconfirmed", UNCONFIRMED + "".join(rows))
+        for desk, line in [(2, "return 1 1 1 525"), (3, "return 3 2 1 60"), (4, "withdraw 2 3 1")]:
+            desks[desk].talk(f"{line} -> same")
+        shows_text(room, "unconfirmed", UNCONFIRMED + rows[1] + rows[2])
+        desks[6].talk("row 1 1 2 530 -> held 2", "commit -> stored 7")  # one row of the batch is new
+        shows_text(room, "unconfirmed", UNCONFIRMED + '1,1,2,530,6,"N, ""n""",A\n' + rows[1])
+        desks[2].talk("return 1 1 2 530 -> same")
+        shows_text(room, "unconfirmed", UNCONFIRMED + rows[1])
+
+
+def kept_by_a_stop(room, desk, line, answer):
+    """The office is killed as the disk has kept this line, and the next start answers it."""
+    room.stops_at(desk, line, is_stored=True)
+    room.start()
+    assert desk.answer() == answer, f"the answer to {line}"
+
+
+# What can be published
+
+
+def test_sheet_is_final_where_a_desk_asked_for_it(new_room):
+    """the bundle is final from the time on when a desk was answered a final sheet, until the next command; its sheet has the digit 1, and
+    check says that it is right"""
+    new_room.start()
+    desk = new_room.desk(5)
+    sent = [*RETURNS, *CLOSINGS]
+    desk.talk("final -> refused notclosed 1", *(f"{line} -> stored {number}" for number, line in enumerate(sent, 1)),
+              'x,final,sheet final 12 0 , -> refused syntax')
+    has_bundle(new_room, sent, "sheet")
+    assert text_of(new_room, "publish/sheet.txt").startswith("1 sheet provisional 12\n"), "it is provisional"
+    assert desk.send("final").startswith("5 sheet final 12\n"), "a final sheet is shown"
+    until("it is final", lambda: text_of(new_room, "publish/sheet.txt").startswith("1 sheet final 12\n"))
+    has_bundle(new_room, sent, "final")
+    desk.talk("reopen 1 -> stored 13", "close 1 -> stored 14")
+    has_bundle(new_room, [*sent, "reopen 1", "close 1"], "sheet")
+
+
+def has_bundle(room, lines, line):
+    """Waits for the files after these lines, all stored, which are those of a sheet that is asked for by this line."""
+    folder, (files, published) = room.shows(len(lines)) / "publish", model(room, lines, line)
+    compare_folder(folder, published)
+    assert (folder / "../seats").read_text() == files["seats"], "the seats"
+    words = ["--setup", folder / "setup.toml", "--sheet", folder / "sheet.txt", "--held", folder / "held.csv"]
+    assert b"\nsheet ok" in subprocess.run([PROGRAM, "check", *words], stdout=subprocess.PIPE, check=True).stdout, "it is right"
+
+
+def test_page_and_modes(new_room):
+    """where the page is not installed, that is said once, and the bundle goes without it; where it is, it is among what everybody may
+    read, unchanged; a run never gets the copy itself"""
+    new_room.on_copies(f"[ $1 != run ] || echo $1 >> '{new_room.path}/runs'")
+    office = new_room.start()
+    new_room.shows(0)
+    new_room.ask(1, RETURNS[0])
+    files = ["held.csv", "no-seats", "setup.toml", "vote-groups.csv", "votes.csv"]
+    assert sorted(it.name for it in (new_room.shows(1) / "publish").iterdir()) == files, "the files"
+    assert office.said().count("the page that checks a sheet is not installed") == 1, "how often it is said"
     new_room.stop()
+    shutil.copy(TOP / "page/index.html", new_room.scripts)
+    office = new_room.start()
+    new_room.ask(1, *RETURNS[1:])
+    now = new_room.shows(9)
+    assert (now / "publish/index.html").read_bytes() == (TOP / "page/index.html").read_bytes(), "the page"
+    assert {it.stat().st_mode & 0o7777 for it in (now / "publish", *(now / "publish").iterdir())} == {0o755, 0o644}, "the modes"
+    assert (now / "publish/sheet.txt").exists(), "the sheet is there"
+    assert not (new_room.path / "runs").exists(), "the copy is not run"
+    assert (now / "disk").read_bytes() == new_room.disk.read_bytes(), "the copy"
+    assert "the page" not in office.said(), "nothing is said of the page"
 
 
-def shows_unconfirmed(room, commands, rows):
-    text, file = UNCONFIRMED + "".join(rows), room.folder / "now/unconfirmed"
-    until(lambda: f"it shows {text}, and not {file.read_text()}", lambda: room.shows(commands) and file.read_text() == text)
-
-
-def test_unconfirmed_after_a_stop(new_room):
-    """what a desk sent before a stop, which had kept it, it has not confirmed itself"""
-    new_room.edits_answers("/stored [13]/d")
+def test_child_that_fails(new_room):
+    """a copy that zhcount says something else of, or whose sheet fails, is not shown: the office says why, goes on and tries again"""
+    fails = new_room.path / "fails"
+    fails.touch()
+    new_room.stands_in(f"if [ $1 = \"$(cat '{fails}')\" ]; then echo '1 refused memory'; echo 'zhcount: ill' >&2; exit 1; fi")
     new_room.start()
+    new_room.ask(1, *RETURNS)
+    new_room.shows(9)
+    for commands, task, text in [(10, "run", "no sheet of the copy: 1 refused memory"), (11, "seats", "zhcount seats: zhcount: ill"),
+                                 (12, "status", "zhcount status: zhcount: ill")]:
+        fails.write_text(task)
+        assert new_room.ask(2, f"return 1 1 {commands - 8} 525").out == [f"stored {commands}"]
+        new_room.office.says(f"zhcount-office: `now` could not be renewed: {text}")
+        fails.write_text("")
+        new_room.shows(commands)
+
+
+# Totals
+
+
+def test_differs(new_room):
+    """a total that is not that of the returns is named, once they are all in; and each row that is wrong, there and by the office"""
+    totals = new_room.path / "totals.csv"
+    new_room.start("--totals", totals)
     desk = new_room.desk(1)
-    new_room.note(desk, RETURNS[0])
-    until("it is stored", lambda: RETURNS[0].replace("return ", "").replace(" ", ",") in new_room.zhcount("export", disk=copied(new_room)))
-    new_room.restart()
-    assert desk.answer() == "stored 1"
-    desk.talk("open -> held 0", "row 1 2 1 300 -> held 1", "commit -> stored 2", "open -> held 0", "row 1 3 1 175 -> held 1")
-    new_room.note(desk, "commit")
-    until("it is stored", lambda: "1,3,1,175" in new_room.zhcount("export", disk=copied(new_room)))
-    new_room.restart()
-    assert desk.answer() == "stored 3"
-    shows_unconfirmed(new_room, 3, table_of(RETURNS[:3]))
-    new_room.stop()
-
-
-def copied(room):
-    path = room.path / "copied.disk"
-    path.write_bytes(room.disk.read_bytes())
-    return path
+    new_room.office.says(f"--totals: {totals} can't be read: ")
+    shows_text(new_room, "differs", f"{DIFFERS},,,,{totals} can't be read: [Errno 2] No such file or directory: '{totals}'\n")
+    totals.write_text("municipality,votes\n1,1000\n2,600\n")
+    desk.talk("return 1 1 1 525 -> stored 1", "return 1 2 1 300 -> stored 2")
+    new_room.shows(2)
+    shows_text(new_room, "differs", DIFFERS)
+    desk.talk("return 1 3 1 1570 -> stored 3")
+    shows_text(new_room, "differs", f"{DIFFERS}1,2395,1000,N,\n")
+    totals.write_text("municipality,votes\n1,1000\n2,600\n9,600\n2,700\n3,2.5\n")
+    desk.talk("return 1 3 2 175 -> stored 4", *(f"return 2 {it} 1 {it}00 -> stored {it + 4}" for it in (1, 2, 3)))
+    remarks = ["line 4: there is no municipality '9'", "line 5: municipality 2 is there already", "line 6: '2.5' is no number of votes"]
+    shows_text(new_room, "differs", DIFFERS + "".join(f",,,,{it}\n" for it in remarks))
+    new_room.office.says(f"--totals: {'; '.join(remarks)}")
