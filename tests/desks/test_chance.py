@@ -14,33 +14,29 @@ import pytest
 
 from counting import Count, random_line
 from logs import events
-from now import command_of
 from people import Person
 from quiet import QuietRoom, patient_scripts
 from room import until
 
 pytestmark = [pytest.mark.long, pytest.mark.xdist_group("chance")]
 KILLS, SEED = int(os.environ.get("KILLS", "15")), int(os.environ.get("SEED", "86"))
-LINES = 40 * KILLS  # of a desk, at most
-LEAST = 4  # of a desk, so that some are commands however soon each office is killed
+LEAST, MOST = 4, 40 * KILLS  # lines of a desk: some are commands then, however soon each office is killed
 PAUSES = (0.01, 0.05, 0.1, 0.2, 0.4, 0.8)  # seconds between two kills, at most
 
 
 class Worker(Person):
-    """A person whose lines come by chance."""
+    """A person whose lines come by chance. `seen` is a count of what was stored, roughly, so that lines make sense."""
 
-    def __init__(self, night, number):
-        super().__init__(night.room, number)
-        self.night, self.chance = night, random.Random(SEED * 10 + number)
-
-    def work(self):
-        while len(self.typed) < LINES and not self.night.is_over.is_set():
+    def work(self, seen, is_over):
+        chance = random.Random(SEED * 10 + self.number)
+        while len(self.typed) < MOST and not is_over.is_set():
             line = last = self.typed[-1][0] if self.typed else ""
             while line == last:  # so that a greeting says which one it speaks of
-                line = random_line(self.chance, self.night.seen)
+                line = random_line(chance, seen)
             answer = self.type(line)
             if re.match("(return|withdraw) ", line) and answer.startswith("stored"):
-                self.night.seen.held[tuple(map(int, line.split()[1:3]))] = int(line.split()[3]), None
+                _, municipality, group, number, *_ = line.split()
+                seen.held[int(municipality), int(group)] = int(number), None
         if self.desk:
             status = self.desk.end()  # the last kill may have come after its last answer
             assert status in (0, -signal.SIGKILL), f"desk {self.number} ends with {status}: {self.desk.said()}"
@@ -49,74 +45,45 @@ class Worker(Person):
         return super().is_excused(status) or "another connection has this desk" in self.desk.said()  # the one before was just killed
 
 
-class Night:
-    """A room, its people, and who kills what."""
+def serves(room):
+    """Whether the office serves, or has ended; then it is started again, as by systemd."""
+    if room.office.has_ended():
+        status = room.office.wait()
+        assert status in (1, -signal.SIGKILL), f"the office ends with {status}: {room.office.said()}"
+        room.start(is_awaited=False)
+    return room.serves()
 
-    def __init__(self, room):
-        self.room, self.chance, self.is_over = room, random.Random(SEED), threading.Event()
-        self.seen = Count()  # roughly, so that lines make sense
-        self.people = [Worker(self, number) for number in range(1, 9)]
-        self.killed = {"office": 0, "run": 0, "desk": 0, "witness": 0}
 
-    def pid_of(self, what):
-        desks = [it.desk.process.pid for it in self.people if it.desk]
-        if what == "desk":
-            return self.chance.choice(desks) if desks else 0
-        if what == "witness":
-            return next((pid for pid in self.room.children_of(self.room.office) if b"zhcount-witness" in command_of(pid)), 0)
-        return self.room.office.process.pid if what == "office" else self.room.child("run")
-
-    def kill(self):
-        what = self.chance.choice([*self.killed])
-        pid = self.pid_of(what)
+def kill(room, people, what, chance):
+    """Kills one of these, if there is one: mostly some while after the office serves."""
+    if chance.random() < 0.7:
+        until(lambda: f"the office serves, or has ended: {room.office.said()}", lambda: room.serves() or room.office.has_ended())
+    time.sleep(chance.choice(PAUSES) * chance.random())
+    desks = [it.desk.process.pid for it in people if it.desk]
+    pid = {"office": room.office.process.pid, "run": room.child("run"), "witness": room.child(str(room.scripts / "zhcount-witness")),
+           "desk": chance.choice(desks) if desks else 0}[what]
+    with contextlib.suppress(ProcessLookupError):
         if pid:
-            with contextlib.suppress(ProcessLookupError):
-                os.kill(pid, signal.SIGKILL)
-                self.killed[what] += 1
-
-    def pause(self):
-        """Until the next kill: mostly some while after the office serves."""
-        if self.chance.random() < 0.7:
-            until(lambda: f"the office serves, or has ended: {self.room.office.said()}",
-                  lambda: self.room.serves() or self.room.office.has_ended())
-        time.sleep(self.chance.choice(PAUSES) * self.chance.random())
-
-    def look_after_office(self):
-        """Starts the office again, as systemd would."""
-        if self.room.office.has_ended():
-            status = self.room.office.wait()
-            assert status in (1, -signal.SIGKILL), f"the office ends with {status}: {self.room.office.said()}"
-            self.room.start(is_awaited=False)
-
-    def go_on(self):
-        with concurrent.futures.ThreadPoolExecutor(8) as pool:
-            work = [pool.submit(it.work) for it in self.people]
-            while not all(it.done() for it in work):
-                self.look_after_office()
-                if sum(self.killed.values()) < KILLS:
-                    self.pause()
-                    self.kill()
-                else:
-                    if all(len(it.typed) >= LEAST for it in self.people):
-                        self.is_over.set()
-                    time.sleep(0.02)
-                if any(it.done() and it.exception() for it in work):
-                    self.is_over.set()
-            for it in work:
-                it.result()
-        until(lambda: f"the office serves: {self.room.office.said()}", lambda: self.look_after_office() or self.room.serves())
+            os.kill(pid, signal.SIGKILL)
+    return bool(pid)
 
 
-def check(night):
-    """What people were shown is what the log has, of each desk in its order, and each answer there is that of the manual."""
-    room = night.room
-    room.check()
-    for it in night.people:
-        it.check()
-    stored = [it.text for it in room.events() if it.kind == "answer" and it.text.startswith("stored ")]
-    assert stored == [f"stored {number}" for number in range(1, len(stored) + 1)], "the commands"
-    assert len(stored) > 5, f"commands were stored: {len(stored)}"
-    assert room.rebuilt() == room.zhcount("export"), "the export of the disk made anew"
+def night(room, people, victims):
+    """The people work until so many kills have come, and each has typed some lines."""
+    chance, kills, seen, is_over = random.Random(SEED), 0, Count(), threading.Event()
+    with concurrent.futures.ThreadPoolExecutor(8) as pool:
+        work = [pool.submit(it.work, seen, is_over) for it in people]
+        while not all(it.done() for it in work):
+            serves(room)
+            time.sleep(0.02)
+            if kills < KILLS:
+                kills += kill(room, people, chance.choice(victims), chance)
+            is_enough = kills == KILLS and all(len(it.typed) >= LEAST for it in people)
+            if is_enough or any(it.done() and it.exception() for it in work):
+                is_over.set()
+        for it in work:
+            it.result()
+    until(lambda: f"the office serves: {room.office.said()}", lambda: serves(room))
 
 
 @pytest.mark.parametrize("has_witness", [False, True], ids=["alone", "with a witness"])
@@ -128,13 +95,17 @@ def test_kills(has_witness):
         if has_witness:
             room.scripts = patient_scripts(room.scripts)
             room.options = ["--witness", " ".join(f"'{it}'" for it in room.script("zhcount-witness", copy))]
-        night = Night(room)
-        if not has_witness:
-            del night.killed["witness"]
         room.start()
-        night.go_on()
+        people = [Worker(room, number) for number in range(1, 9)]
+        night(room, people, ["office", "run", "desk", *(["witness"] if has_witness else [])])
         if has_witness:
             until(lambda: f"the witness has all: {room.office.said()}", lambda: events(copy)[-1:] == room.events()[-1:])
-        check(night)
+        room.check()
+        for it in people:
+            it.check()
+        stored = [it.text for it in room.events() if it.kind == "answer" and it.text.startswith("stored ")]
+        assert stored == [f"stored {number}" for number in range(1, len(stored) + 1)], "the commands"
+        assert len(stored) > 5, f"commands were stored: {len(stored)}"
+        assert room.rebuilt() == room.zhcount("export"), "the export of the disk made anew"
         if has_witness:
             until("the witness has the same", lambda: room.events() == events(copy))
