@@ -1,5 +1,6 @@
-"""Tests of tables that a desk enters as one batch: what is taken and what is refused, whose batch is open, and stops of the desk and of the
-office at their calls: a table is in whole or not at all, and the same command finishes it."""
+"""Tests of tables: those that a desk enters as one batch, of which what is taken and what is refused, whose batch is open, and stops of the
+desk and of the office at their calls: a table is in whole or not at all, and the same command finishes it; and those of totals."""
+import importlib
 import os
 import pathlib
 import re
@@ -10,19 +11,27 @@ import pytest
 
 from processes import Desk
 from quiet import QuietRoom
-from room import running, until
+from room import SCRIPTS, running, until
 from test_socket import HELLO, line_of
 from watch import Stop, WatchedRoom
 
 NAMES = "municipality,list,number,votes\n"
 TABLE = NAMES + "1,1,1,525\n1,2,1,300\n3,1,1,90\n"
-ROWS = ["row 1 1 1 525", "row 1 2 1 300", "row 3 1 1 90"]
-LINES = ["open", *ROWS, "commit"]
 EXCEL = '\ufeffGemeinde;Liste;Fassung;Stimmen\r\n1;1;1;525\r\n"1";"2";"1";"300"\r\n3;1;1;90\r\n'
 PLACES = ("show 1 1", "show 1 2", "show 3 1")
 LARGE = "\n".join(["version = 1", "house = 10", "[[constituency]]", 'name = "C"', "persons = 5000",
                    *(f'[[municipality]]\nname = "M{it}"\nconstituency = 1' for it in range(32)),
                    *(f'[[group]]\nname = "G{it}"\nstands = [1]' for it in range(32)), ""])
+
+
+def rows_of(table):
+    """The lines with the rows of a table."""
+    return [f"row {it.replace(',', ' ')}" for it in table.splitlines()[1:]]
+
+
+def lines_of(table):
+    """All lines that enter it."""
+    return ["open", *rows_of(table), "commit"]
 
 
 def started(room, number, table, source=None):
@@ -32,21 +41,14 @@ def started(room, number, table, source=None):
     return room.process(Desk, room.script("zhcount-desk", str(number), room.folder, "--csv", source or path))
 
 
-def enter(room, number, table):
-    """The same once it has ended, with its status."""
-    desk = started(room, number, table)
-    desk.status = desk.wait()
-    return desk
-
-
 def is_in(room, number, table, answer):
-    desk = enter(room, number, table)
-    assert (desk.status, desk.out) == (0, [answer]), f"it is in: {desk.said()}"
+    desk = started(room, number, table)
+    assert (desk.wait(), desk.out) == (0, [answer]), f"it is in: {desk.said()}"
 
 
 def is_refused(room, number, table, *texts, out=()):
-    desk = enter(room, number, table)
-    assert (desk.status, desk.out) == (1, [*out]), f"it is refused: {desk.said()}"
+    desk = started(room, number, table)
+    assert (desk.wait(), desk.out) == (1, [*out]), f"it is refused: {desk.said()}"
     for it in texts:
         assert f"zhcount-desk: {it}" in desk.error, f"'{it}' is said: {desk.said()}"
     return desk
@@ -55,24 +57,20 @@ def is_refused(room, number, table, *texts, out=()):
 # What is taken
 
 
-def test_from_a_swiss_excel(room):
-    """semicolons, a byte order mark, CR LF, quoted cells and German titles: open, rows and commit, whose answer is shown"""
-    is_in(room, 3, EXCEL, "stored 1")
-    assert room.noted() == LINES, "what is sent"
-    is_in(room, 4, TABLE, "same")
-    room.check()
-
-
-def test_other_forms(room):
-    """commas, another order of the columns, a blank line, another end of lines, standard input: it is the same table"""
-    tables = [TABLE, TABLE.replace("\n", "\r\n"), "\ufeff" + TABLE, EXCEL[1:].replace("\r\n", "\r"),
+def test_forms(room):
+    """Excel's semicolons, byte order mark, CR LF, quoted cells and German titles; commas, other columns first, a blank line, another end of
+    lines, standard input: it is the same table, and the answer to its commit is shown; that a file is not there is said"""
+    tables = [EXCEL, TABLE, TABLE.replace("\n", "\r\n"), "\ufeff" + TABLE, EXCEL[1:].replace("\r\n", "\r"),
               "votes;number;list;municipality\n525;1;1;1\n\n300;1;2;1\n90;1;1;3\n"]
     for number, table in enumerate(tables):
         is_in(room, 3, table, "same" if number else "stored 1")
     desk = started(room, 3, "", source="-")
     assert desk.end(TABLE) == 0, "the end"
     assert desk.out == ["same"]
-    assert room.noted() == LINES * 6, "what is sent"
+    desk = started(room, 3, "", source=room.path / "none")
+    assert desk.wait() == 1
+    desk.says("No such file or directory")
+    room.check({3: lines_of(TABLE) * 7})
 
 
 def test_largest():
@@ -80,7 +78,7 @@ def test_largest():
     table = NAMES + "".join(f"{it // 32 + 1},{it % 32 + 1},1,{it}\n" for it in range(1000))
     with running(QuietRoom(setup=LARGE)) as room:
         is_refused(room, 3, table + "32,32,1,5\n", "line 1002: the table has 1001 rows up to here; 1 to 1000 are allowed")
-        room.ask(3, "open", *(f"row {it.replace(',', ' ')}" for it in table.split("\n")[1:-1]))
+        room.ask(3, "open", *rows_of(table))
         is_in(room, 3, table, "stored 1")
         assert len(room.noted()) == 1002, "lines"
 
@@ -105,15 +103,14 @@ def test_largest():
      ["line 1: the column number is missing", "line 1: the column 'Wähler' is unknown, or there twice: delete it"]),
     ("municipality,list,number,votes,\n1,1,1,5,\n", ["line 1: the column '' is unknown, or there twice: delete it"]),
     ("municipality,list,number,votes,Stimmen\n1,1,1,5,6\n", ["line 1: the column 'Stimmen' is unknown, or there twice: delete it"]),
-    ("1,1,1,525\n", ["line 1: the column municipality is missing"]),
     ("", ["line 1: the column municipality is missing"]),
     (NAMES, ["line 1: the table has 0 rows up to here; 1 to 1000 are allowed"]),
     (NAMES + "1,1,1,525\n1,2,1,30", ["line 3: the end of this line is missing: if the table is complete, press Enter at its end"]),
     (NAMES + '1,1,1,525\n"1,2,1,30\n', ["line 3: this is no CSV: unexpected end of data"]),
     (TABLE + "\n" * (1 << 20), ["line 1048520: the table has 3 rows up to here; 1 to 1000 are allowed"]),
     (TABLE.encode("utf-16"), ["line 1: the column municipality is missing"]),
-], ids=["separators", "a separator of Excel", "blank", "no number", "twice", "cells", "columns", "no title", "two titles", "no titles",
-        "nothing", "no rows", "no end", "no CSV", "long", "UTF-16"])
+], ids=["separators", "a separator of Excel", "blank", "no number", "twice", "cells", "columns", "no title", "two titles", "nothing",
+        "no rows", "no end", "no CSV", "long", "UTF-16"])
 def test_faults(new_room, table, faults):
     """a table with faults is not sent: each is said with its line, and no office is looked for"""
     new_room.folder = pathlib.Path(os.devnull)  # a desk that looked for one would say that it can't
@@ -123,21 +120,18 @@ def test_faults(new_room, table, faults):
         assert len(desk.error) - 1 == len(faults), f"the faults: {desk.said()}"
 
 
-def test_no_file(new_room):
-    """a file that is not there, and one with many faults, of which the first twenty are said"""
-    new_room.folder = pathlib.Path(os.devnull)
-    desk = new_room.process(Desk, new_room.script("zhcount-desk", "3", new_room.folder, "--csv", new_room.path / "none"))
-    assert desk.wait() == 1
-    desk.says("No such file or directory")
-    desk = is_refused(new_room, 3, NAMES + "1,1,1,x\n" * 30, "line 21: votes is 'x', which is no whole number",
-                      "desk 3: faults in the table: 30; nothing was sent")
+def test_many_faults(new_room):
+    """of many faults the first twenty are said, and how many there are"""
+    faults = [f"line {line}: votes is 'x', which is no whole number" for line in range(2, 22)]
+    desk = is_refused(new_room, 3, NAMES + "1,1,1,x\n" * 30, *faults, "desk 3: faults in the table: 30; nothing was sent")
     assert len(desk.error) == 21, "what is said"
 
 
 # What the office refuses
 
 
-@pytest.mark.parametrize("rows", [["row 1 1 1 526"], ROWS[1::-1], [*ROWS, "row 2 1 1 5"]], ids=["votes", "order", "more"])
+@pytest.mark.parametrize("rows", [["row 1 1 1 526"], rows_of(TABLE)[1::-1], [*rows_of(TABLE), "row 2 1 1 5"]],
+                         ids=["votes", "order", "more"])
 def test_batch_of_a_person(room, rows):
     """a batch that is open and has other rows is a person's: nothing is sent, and it can be committed"""
     room.ask(3, "open", *rows)
@@ -150,31 +144,27 @@ def test_batch_of_a_person(room, rows):
 def test_refused_row(room):
     """a row that the office refuses is said with its line, and the batch is dropped"""
     is_refused(room, 3, TABLE.replace("1,2,", "1,4,"), "desk 3: line 3: row 1 4 1 300: refused list; nothing was entered")
-    assert room.noted() == ["open", ROWS[0], "row 1 4 1 300", "drop"], "what is sent"
+    assert room.noted() == ["open", "row 1 1 1 525", "row 1 4 1 300", "drop"], "what is sent"
     is_in(room, 3, TABLE, "stored 1")
     room.check()
 
 
-@pytest.mark.parametrize("lines, refusal, line, shown", [
-    (["return 1 1 1 525", "return 1 2 1 301"], "conflict", "3: row 1 2 1 300", "show 1 2: shows 1 301"),
-    (["return 1 1 1 525", "withdraw 1 2 1"], "conflict", "3: row 1 2 1 300", "show 1 2: shows 1 withdrawn"),
-    (["return 3 1 1 90", "return 3 1 2 91"], "stale", "4: row 3 1 1 90", "show 3 1: shows 2 91"),
-    (["close 3", "return 2 1 1 5"], "closed", "4: row 3 1 1 90", "show 3 1: none"),
-], ids=["conflict", "withdrawn", "stale", "closed"])
-def test_refused_commit(room, lines, refusal, line, shown):
-    """the row that a commit was refused for is found by what is held, and said with its line; the batch is dropped"""
+@pytest.mark.parametrize("lines, table, line, refusal, shown", [
+    (["return 1 1 1 525", "return 1 2 1 301"], TABLE, "3: row 1 2 1 300", "refused conflict", "show 1 2: shows 1 301"),
+    (["return 1 1 1 525", "withdraw 1 2 1"], TABLE, "3: row 1 2 1 300", "refused conflict", "show 1 2: shows 1 withdrawn"),
+    (["return 3 1 1 90", "return 3 1 2 91"], TABLE, "4: row 3 1 1 90", "refused stale", "show 3 1: shows 2 91"),
+    (["close 3", "return 2 1 1 5"], TABLE, "4: row 3 1 1 90", "refused closed", "show 3 1: none"),
+    (["return 1 1 1 525"], NAMES + "1,1,2,526\n1,2,2,300\n", "3: row 1 2 2 300", "refused gap", "show 1 2: none"),
+], ids=["conflict", "withdrawn", "stale", "closed", "gap"])
+def test_refused_commit(room, lines, table, line, refusal, shown):
+    """the row that a commit was refused for is found by what is held, and said with its line, also where nothing is held or another row has
+    the next number; the batch is dropped"""
     room.ask(2, *lines)
-    is_refused(room, 3, TABLE, f"desk 3: line {line}: refused {refusal} ({shown}); nothing was entered", out=[f"refused {refusal}"])
-    assert [it for it, _ in room.of_desk(3)][:6] == [*LINES, "drop"], "what is sent"
+    is_refused(room, 3, table, f"desk 3: line {line}: {refusal} ({shown}); nothing was entered", out=[refusal])
+    sent = [*lines_of(table), "drop"]
+    assert [it for it, _ in room.of_desk(3)][:len(sent)] == sent, "what is sent"
     assert room.ask(3, "commit").out == ["refused nobatch"], "it is dropped"
     room.check()
-
-
-def test_gap(room):
-    """a number that is too high is said with its line, also where nothing is held; the next number of another row is not"""
-    room.ask(2, "return 1 1 1 525")
-    is_refused(room, 3, NAMES + "1,1,2,526\n1,2,2,300\n",
-               "desk 3: line 3: row 1 2 2 300: refused gap (show 1 2: none); nothing was entered", out=["refused gap"])
 
 
 def test_closed_meanwhile(room):
@@ -208,7 +198,7 @@ def test_interrupted(room):
     desk.says("desk 3: told to end", "without an answer: open; the same command finishes the table")
     os.kill(run_process, signal.SIGCONT)
     is_in(room, 3, TABLE, "stored 1")
-    assert room.noted() == LINES, "what is sent"
+    assert room.noted() == lines_of(TABLE), "what is sent"
 
 
 class StopOf(Stop):
@@ -222,12 +212,15 @@ class StopOf(Stop):
         return self.room.is_of(self.who, call) and call.name != "look"
 
 
-def stopped(room, number, table):
-    """The status of desk 1 that enters this table, and is stopped before this call, if it gets there."""
-    StopOf(room, "desk 1", number)
-    status = enter(room, 1, table).status
-    room.before = lambda call: 0
-    return status
+def stops(room, table_of):
+    """Desk 1 enters the table of each number and is stopped before its call of that number, until it is not: the numbers and statuses."""
+    number, status = 0, -signal.SIGKILL
+    while status == -signal.SIGKILL:
+        number += 1
+        StopOf(room, "desk 1", number)
+        status = started(room, 1, table_of(number)).wait()
+        room.before = lambda call: 0
+        yield number, status
 
 
 def versions(number):
@@ -237,43 +230,36 @@ def versions(number):
 
 @pytest.fixture
 def watched_room():
-    with WatchedRoom(lambda call: 0) as room:
-        room.start()
+    with running(WatchedRoom(lambda call: 0)) as room:
         yield room
 
 
 @pytest.mark.long
 def test_stopped_at_each_call(watched_room):
     """kill -9 of a desk at each of its calls: the table is in whole or not at all, and the same command goes on to its end"""
-    room, version, status = watched_room, 0, None
-    while status != 0:
-        version += 1
-        before, whole = len(room.noted()), [f"shows {version} {version + 10}"] * 3
-        status = stopped(room, version, versions(version))
-        held = room.ask(2, *PLACES).out
-        none = [f"shows {version - 1} {version + 9}" if version > 1 else "none"] * 3
-        assert held in ([whole] if status == 0 else [none, whole]), f"after call {version} there is {held}"
+    room, none, before = watched_room, ["none"] * 3, 0
+    for version, status in stops(room, versions):
+        held, whole = room.ask(2, *PLACES).out, [f"shows {version} {version + 10}"] * 3
+        assert held in ([none, whole] if status else [whole]), f"after call {version} there is {held}"
         is_in(room, 1, versions(version), "same" if held == whole else f"stored {version}")
         assert room.ask(2, *PLACES).out == whole, "all of it is held"
-        sent = len(room.noted()) - before - 2 * len(PLACES)
-        assert sent == (2 * len(LINES) if held == whole else len(LINES)), f"lines after a stop at call {version}, where {held}"
-    assert version > 7, f"calls: {version - 1}"
+        sent = len(room.of_desk(1)) - before
+        assert sent == (10 if held == whole else 5), f"lines after a stop at call {version}, where {held}"
+        none, before = whole, before + sent
+    assert (status, version > 7) == (0, True), f"calls: {version - 1}"
     room.check()
 
 
 @pytest.mark.long
 def test_stopped_as_it_is_refused(watched_room):
     """the same where the commit is refused: the same command says the row, nothing is entered, and no batch is left"""
-    room, number, status = watched_room, 0, -signal.SIGKILL
+    room = watched_room
     room.ask(2, "return 1 2 1 301")
-    while status == -signal.SIGKILL:
-        number += 1
-        status = stopped(room, number, TABLE)
+    for number, status in stops(room, lambda _: TABLE):
         is_refused(room, 1, TABLE, "desk 1: line 3: row 1 2 1 300: refused conflict (show 1 2: shows 1 301); nothing was entered",
                    out=["refused conflict"])
         assert room.ask(1, "commit", *PLACES).out == ["refused nobatch", "none", "shows 1 301", "none"], "there is nothing of it"
-    assert status == 1
-    assert number > 9, f"calls: {number - 1}"
+    assert (status, number > 9) == (1, True), f"calls: {number - 1}"
     room.check()
 
 
@@ -293,3 +279,47 @@ def test_office_is_stopped(watched_room):
         assert (desk.wait(), desk.out) == (0, [f"stored {version}"]), f"the end of the desk: {desk.said()}"
     assert stops > 2, f"stops: {stops}"
     room.check({1: room.noted()})
+
+
+# Totals
+
+
+@pytest.fixture
+def totals_in(monkeypatch):
+    """What the script finds in a file, of a set-up with three municipalities: totals, and remarks without the file's path."""
+    monkeypatch.syspath_prepend(SCRIPTS)
+    script = importlib.import_module("zhcount_tables")
+
+    def found(path):
+        totals, remarks = script.totals_in(path, ["1", "2", "3"])
+        return totals, [it.replace(str(path), "FILE") for it in remarks]
+    return found
+
+
+@pytest.mark.parametrize("text, totals, remarks", [
+    (b"municipality,votes\n1,1000\n3,200\n", {"1": 1000, "3": 200}, []),
+    (b"municipality,votes\n1,1000\n2,\n\n3\n", {"1": 1000}, []),
+    (b"municipality,votes\n1,0", {"1": 0}, []),
+    (b"\xef\xbb\xbfmunicipality;name;votes\r\n3;\"W; a\xfc\";200\r\n", {"3": 200}, []),
+    (b"municipality,votes\n4,10\n1,1000\n", {"1": 1000}, ["line 2: there is no municipality '4'"]),
+    (b"municipality,votes\n1,1000\n1,1001\n2,600\n", {"1": 1000, "2": 600}, ["line 3: municipality 1 is there already"]),
+    (b"municipality,votes\n1,1'000\n2,-1\n3,200\n", {"3": 200}, [f"line {it} is no number of votes" for it in ('2: "1\'000"', "3: '-1'")]),
+    (b"municipality,votes\n\x1b,5\n1,\x07\n", {}, [r"line 2: there is no municipality '\x1b'", r"line 3: '\x07' is no number of votes"]),
+    (b"1,1000\n", {}, ["FILE can't be read: line 1 has not the columns municipality and votes"]),
+    (b"", {}, ["FILE can't be read: line 1 has not the columns municipality and votes"]),
+])
+def test_totals(tmp_path, totals_in, text, totals, remarks):
+    """a total counts for each row that is right, each other one is named with its line, and one without votes is not known yet"""
+    path = tmp_path / "totals.csv"
+    path.write_bytes(text)
+    assert totals_in(path) == (totals, remarks), "the totals and remarks"
+
+
+def test_no_totals(tmp_path, totals_in):
+    """what is no file of totals is said, and not waited for"""
+    (tmp_path / "long").write_bytes(bytes(2_000_000))
+    assert totals_in(tmp_path / "long") == ({}, ["FILE can't be read: it has more than 1048576 bytes"]), "a long one"
+    os.mkfifo(tmp_path / "pipe")
+    assert totals_in(tmp_path / "none") == ({}, ["FILE can't be read: [Errno 2] No such file or directory: 'FILE'"]), "none"
+    assert totals_in(tmp_path) == ({}, ["FILE can't be read: [Errno 21] Is a directory: 'FILE'"]), "a folder"
+    assert totals_in(tmp_path / "pipe") == ({}, ["FILE can't be read: it is not a file"]), "a pipe"
