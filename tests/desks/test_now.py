@@ -7,7 +7,7 @@ import subprocess
 import pytest
 
 from logs import Written
-from now import CLOSINGS, NEVER, RETURNS, UNCONFIRMED, QuickRoom, compare, compare_folder, link_of, model, names_of_now, table_of_lines
+from now import CLOSINGS, NEVER, RETURNS, UNCONFIRMED, QuickRoom, compare, compare_folder, link_of, model, names_of_now
 from places import PROGRAM, REHEARSAL, TOP
 from processes import until
 from room import running
@@ -61,32 +61,24 @@ def test_files_of_a_copy(room):
 
 
 def test_the_end():
-    """at a clean end `now` shows all that was answered, and stays; the next start makes it anew"""
+    """at a clean end `now` shows all that was answered, whatever was typed, and stays; the next start makes it anew, and adds its lines"""
     with QuickRoom(every=NEVER) as room:
         room.on_copies(f"[ -e '{room.held}' ] && rm '{room.held}' && sleep 2")
         room.start()
         until("the first", lambda: link_of(room) == "now-0")
-        room.ask(1, *RETURNS, "show 1 1", "sheet", "x,\"y\"")
+        room.ask(1, "sheet", *RETURNS, "show 1 1", "sheet", "\xff\t\\", "x,\"y\"")
         room.held.touch()  # the last child takes longer than an office that does not wait for it
         assert room.stop() == 0
         compare(room, RETURNS)
         assert names_of_now(room) == ["now", "now-9"], "nothing else"
-        last = (room.folder / "now/lines.csv").read_text().splitlines()[-1]
+        last = text_of(room, "lines.csv").splitlines()[-1]
         assert ',"x,""y""",refused syntax,' in last, f"the last line is there: {last}"
         room.start()
         compare(room, RETURNS)
-
-
-def test_lines(room):
-    """lines.csv has each line that was shown, whatever it says, with its answer; of a sheet what the log has"""
-    room.ask(3, "show 1 1", "x, \"y\" z", "\xff\t\\", "sheet", *RETURNS, "sheet", "return 1 1 2 526")
-    wanted = table_of_lines(room.folder)
-    until("all lines are there", lambda: text_of(room, "lines.csv") == wanted)
-    room.restart()
-    room.ask(2, "show 1 1")
-    wanted = table_of_lines(room.folder)
-    until("those of two starts are there", lambda: text_of(room, "lines.csv") == wanted)
-    assert wanted.splitlines()[-1].split(",")[2:4] == ["2", "2"], "the start of the last one"
+        room.ask(2, "show 1 1")
+        room.stop()
+        compare(room, RETURNS)
+        assert text_of(room, "lines.csv").splitlines()[-1].split(",")[2:4] == ["2", "2"], "start and desk of the last line"
 
 
 @pytest.mark.long
