@@ -160,15 +160,11 @@ class Device:
         return self.files.get(ino, b"")
 
     def torn(self, ino, path, chance):
-        """What was synced, but for some of the sectors that are different since, and perhaps the length."""
-        known, now = self.bytes_of(ino), pathlib.Path(path).read_bytes()
-        found = bytearray(known)
-        for at in range(0, len(now), SECTOR):
-            new = now[at:at + SECTOR]
-            if new != known[at:at + SECTOR] and chance.random() < 0.5:
-                found.extend(bytes(max(0, at + len(new) - len(found))))
-                found[at:at + len(new)] = new
-        return bytes(found[:len(now)] if chance.random() < 0.5 else found)
+        """Of each sector what was synced or what is there now, and likewise of the length."""
+        both = self.bytes_of(ino), pathlib.Path(path).read_bytes()
+        size = len(chance.choice(both))
+        sectors = [chance.choice(both)[at:at + SECTOR].ljust(SECTOR, b"\0") for at in range(0, size, SECTOR)]
+        return b"".join(sectors)[:size]
 
     def synced(self, path):
         """What of a file is on the device; nothing where its name is not."""

@@ -23,61 +23,40 @@
     static __typeof__(&name) next; \
     if (!next) next = (__typeof__(&name))dlsym(RTLD_NEXT, #name)
 
-static ssize_t send_on(int fd, const void *bytes, size_t length) {
-    NEXT(send);
-    return next(fd, bytes, length, MSG_NOSIGNAL);
-}
-
-/* Sends a text to the socket, and waits for an answer: the number of a fault, or 0. Where nobody listens any more, the process goes on. A
- * signal comes before or after: its handler may write, and so ask, too. */
-static int send_and_wait(const char *socket_path, const char *text) {
-    struct sockaddr_un place = {.sun_family = AF_UNIX};
-    unsigned char answer = 0;
-    ssize_t got = 0;
-    sigset_t all, before;
-    int fd = socket(AF_UNIX, SOCK_STREAM | SOCK_CLOEXEC, 0);
-    if (fd < 0) return 0;
-    sigfillset(&all);
-    sigprocmask(SIG_BLOCK, &all, &before);
-    strncpy(place.sun_path, socket_path, sizeof place.sun_path - 1);
-    if (connect(fd, (struct sockaddr *)&place, sizeof place) == 0 && send_on(fd, text, strlen(text)) > 0)
-        while ((got = recv(fd, &answer, 1, 0)) < 0 && errno == EINTR);
-    close(fd);
-    sigprocmask(SIG_SETMASK, &before, NULL);
-    return got == 1 ? answer : 0;
-}
-
-/* Asks before a call at a path; whether the call fails. */
+/* Asks before a call at a path; whether the call fails. Where nobody listens any more, the process goes on. A signal comes before or after:
+ * its handler may write, and so ask, too. (sendto is not among the calls below.) */
 static int asked(const char *call, const char *path) {
     const char *watcher = getenv("WATCHER"), *as = getenv("WATCHED_AS");
+    struct sockaddr_un place = {.sun_family = AF_UNIX};
+    unsigned char fault = 0;
     char text[3 * PATH_MAX];
-    int before = errno, fault;
-    if (!watcher || !as) return 0;
+    sigset_t all, others;
+    int before = errno, fd = watcher && as ? socket(AF_UNIX, SOCK_STREAM | SOCK_CLOEXEC, 0) : -1;
+    if (fd < 0) return 0;
+    snprintf(place.sun_path, sizeof place.sun_path, "%s", watcher);
     snprintf(text, sizeof text, "%d\n%s\n%s\n%s\n", getpid(), as, call, path);
-    fault = send_and_wait(watcher, text);
+    sigfillset(&all);
+    sigprocmask(SIG_BLOCK, &all, &others);
+    if (connect(fd, (struct sockaddr *)&place, sizeof place) == 0 && sendto(fd, text, strlen(text), MSG_NOSIGNAL, NULL, 0) > 0)
+        while (recv(fd, &fault, 1, 0) < 0 && errno == EINTR);
+    close(fd);
+    sigprocmask(SIG_SETMASK, &others, NULL);
     errno = fault ? fault : before;
     return fault;
-}
-
-static void path_of(int fd, char *found) {
-    char link[40];
-    ssize_t size;
-    snprintf(link, sizeof link, fd == AT_FDCWD ? "/proc/self/cwd" : "/proc/self/fd/%d", fd);
-    size = readlink(link, found, PATH_MAX - 1);
-    found[size < 0 ? 0 : size] = 0;
 }
 
 /* Asks before a call at a path, which is that of `folder` where it is not absolute; a path below a descriptor's is that file's. The path of
  * a descriptor alone is "". */
 static int ask(const char *call, int folder, const char *path) {
     const char *below = getenv("WATCHED");
-    char found[PATH_MAX] = "", whole[2 * PATH_MAX];
-    int before = errno, fd, used = 0;
+    char link[40] = "/proc/self/cwd", found[PATH_MAX] = "", whole[2 * PATH_MAX];
+    int before = errno, used = 0;
     if (!below || !path) return 0;
-    if (sscanf(path, "/proc/self/fd/%d%n", &fd, &used) == 1) {
-        path_of(fd, found);
-        path += used + (path[used] == '/');
-    } else if (path[0] != '/') path_of(folder, found);
+    if (sscanf(path, "/proc/self/fd/%d%n", &folder, &used) == 1) path += used + (path[used] == '/');
+    if (used || path[0] != '/') {
+        if (folder != AT_FDCWD) snprintf(link, sizeof link, "/proc/self/fd/%d", folder);
+        if (readlink(link, found, sizeof found - 1) < 0) found[0] = 0;
+    }
     errno = before;
     snprintf(whole, sizeof whole, "%s%s%s", found, found[0] && path[0] ? "/" : "", path);
     return strncmp(whole, below, strlen(below)) == 0 && strchr("/", whole[strlen(below)]) ? asked(call, whole) : 0;
