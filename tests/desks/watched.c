@@ -8,7 +8,6 @@
 #include <fcntl.h>
 #include <limits.h>
 #include <signal.h>
-#include <stdarg.h>
 #include <stddef.h>
 #include <stdio.h>
 #include <stdlib.h>
@@ -17,11 +16,6 @@
 #include <sys/stat.h>
 #include <sys/un.h>
 #include <unistd.h>
-
-/* The function that this one stands before, as `next`. */
-#define NEXT(name) \
-    static __typeof__(&name) next; \
-    if (!next) next = (__typeof__(&name))dlsym(RTLD_NEXT, #name)
 
 /* Asks before a call at a path; whether the call fails. Where nobody listens any more, the process goes on. A signal comes before or after:
  * its handler may write, and so ask, too. (sendto is not among the calls below.) */
@@ -71,58 +65,45 @@ static int ask_of(const char *call, int fd) {
     return fd == 2 ? 0 : asked("send", fd == 1 ? "shown" : S_ISFIFO(found.st_mode) ? "pipe" : "socket");
 }
 
-#define ASKING(name, question, result, parameters, arguments) \
-    result name parameters { \
-        NEXT(name); \
-        return question ? -1 : next arguments; \
-    }
-
-#define AT_DESCRIPTOR(name, call, result, parameters, arguments) ASKING(name, ask_of(call, file), result, parameters, arguments)
-#define AT_PATH(name, call, folder, parameters, arguments) ASKING(name, ask(call, folder, path), int, parameters, arguments)
-
-#define OPENING(name, folder, parameters, arguments) \
-    int name parameters { \
-        va_list more; \
-        va_start(more, flags); \
-        int mode = va_arg(more, int); \
-        va_end(more); \
-        NEXT(name); \
-        return ask((flags & (O_ACCMODE | O_CREAT | O_TRUNC)) ? "open" : "look", folder, path) ? -1 : next arguments; \
-    }
-
-OPENING(open, AT_FDCWD, (const char *path, int flags, ...), (path, flags, mode))
-OPENING(open64, AT_FDCWD, (const char *path, int flags, ...), (path, flags, mode))
-OPENING(openat, folder, (int folder, const char *path, int flags, ...), (folder, path, flags, mode))
-OPENING(openat64, folder, (int folder, const char *path, int flags, ...), (folder, path, flags, mode))
-AT_DESCRIPTOR(write, "write", ssize_t, (int file, const void *bytes, size_t length), (file, bytes, length))
-AT_DESCRIPTOR(send, "write", ssize_t, (int file, const void *bytes, size_t length, int flags), (file, bytes, length, flags))
-AT_DESCRIPTOR(pwrite, "write", ssize_t, (int file, const void *bytes, size_t length, off_t place), (file, bytes, length, place))
-AT_DESCRIPTOR(pwrite64, "write", ssize_t, (int file, const void *bytes, size_t length, off64_t place), (file, bytes, length, place))
-AT_DESCRIPTOR(ftruncate, "truncate", int, (int file, off_t length), (file, length))
-AT_DESCRIPTOR(ftruncate64, "truncate", int, (int file, off64_t length), (file, length))
-AT_DESCRIPTOR(fsync, "sync", int, (int file), (file))
-AT_DESCRIPTOR(fdatasync, "sync", int, (int file), (file))
-AT_DESCRIPTOR(fchmod, "chmod", int, (int file, mode_t mode), (file, mode))
-AT_PATH(truncate, "truncate", AT_FDCWD, (const char *path, off_t length), (path, length))
-AT_PATH(truncate64, "truncate", AT_FDCWD, (const char *path, off64_t length), (path, length))
-AT_PATH(chmod, "chmod", AT_FDCWD, (const char *path, mode_t mode), (path, mode))
-AT_PATH(fchmodat, "chmod", folder, (int folder, const char *path, mode_t mode, int flags), (folder, path, mode, flags))
-AT_PATH(mkdir, "make", AT_FDCWD, (const char *path, mode_t mode), (path, mode))
-AT_PATH(mkdirat, "make", folder, (int folder, const char *path, mode_t mode), (folder, path, mode))
-AT_PATH(unlink, "unlink", AT_FDCWD, (const char *path), (path))
-AT_PATH(unlinkat, "unlink", folder, (int folder, const char *path, int flags), (folder, path, flags))
-AT_PATH(rmdir, "unlink", AT_FDCWD, (const char *path), (path))
-AT_PATH(rename, "rename", AT_FDCWD, (const char *path, const char *to), (path, to))
-AT_PATH(renameat, "rename", folder, (int folder, const char *path, int into, const char *to), (folder, path, into, to))
-AT_PATH(link, "link", AT_FDCWD, (const char *path, const char *to), (path, to))
-AT_PATH(linkat, "link", folder, (int folder, const char *path, int into, const char *to, int flags),
-        (folder, path, into, to, flags))
-AT_PATH(symlink, "link", AT_FDCWD, (const char *of, const char *path), (of, path))
-
-int bind(int file, const struct sockaddr *place, socklen_t length) {
-    char path[sizeof(struct sockaddr_un) + 1] = "";
-    NEXT(bind);
-    if (place->sa_family == AF_UNIX && length > offsetof(struct sockaddr_un, sun_path))
-        memcpy(path, ((const struct sockaddr_un *)place)->sun_path, length - offsetof(struct sockaddr_un, sun_path));
-    return path[0] && ask("make", AT_FDCWD, path) ? -1 : next(file, place, length);
+static int ask_to_open(int folder, const char *path, int flags) {
+    return ask((flags & (O_ACCMODE | O_CREAT | O_TRUNC)) ? "open" : "look", folder, path);
 }
+
+static int ask_to_bind(const struct sockaddr_un *place, size_t length) {
+    char path[sizeof *place + 1] = "";
+    if (place->sun_family == AF_UNIX && length > offsetof(struct sockaddr_un, sun_path))
+        memcpy(path, place->sun_path, length - offsetof(struct sockaddr_un, sun_path));
+    return path[0] ? ask("make", AT_FDCWD, path) : 0;
+}
+
+/* A function in place of the one of this name, which it calls unless the answer to the question is a fault. Whatever its parameters are, on
+ * x86-64 numbers and pointers are passed as these are; it is named for the assembler alone, since headers declare it otherwise. */
+#define ASKING(name, question) \
+    long asking_##name(long a, long b, long c, long d, long e) __asm__(#name); \
+    long asking_##name(long a, long b, long c, long d, long e) { \
+        static long (*next)(long, long, long, long, long); \
+        if (!next) next = (__typeof__(next))dlsym(RTLD_NEXT, #name); \
+        return question ? -1 : next(a, b, c, d, e); \
+    }
+
+#define OF_FILE(name, call) ASKING(name, ask_of(call, (int)a))
+#define OF_PATH(name, call) ASKING(name, ask(call, AT_FDCWD, (const char *)a))
+#define BELOW_FOLDER(name, call) ASKING(name, ask(call, (int)a, (const char *)b))
+
+ASKING(open, ask_to_open(AT_FDCWD, (const char *)a, (int)b))
+ASKING(open64, ask_to_open(AT_FDCWD, (const char *)a, (int)b))
+ASKING(openat, ask_to_open((int)a, (const char *)b, (int)c))
+ASKING(openat64, ask_to_open((int)a, (const char *)b, (int)c))
+ASKING(bind, ask_to_bind((const struct sockaddr_un *)b, (socklen_t)c))
+ASKING(symlink, ask("link", AT_FDCWD, (const char *)b))
+OF_FILE(write, "write")
+OF_FILE(send, "write")
+OF_FILE(pwrite, "write") OF_FILE(pwrite64, "write")
+OF_FILE(ftruncate, "truncate") OF_FILE(ftruncate64, "truncate")
+OF_FILE(fsync, "sync") OF_FILE(fdatasync, "sync")
+OF_PATH(truncate, "truncate") OF_PATH(truncate64, "truncate")
+OF_FILE(fchmod, "chmod") OF_PATH(chmod, "chmod") BELOW_FOLDER(fchmodat, "chmod")
+OF_PATH(mkdir, "make") BELOW_FOLDER(mkdirat, "make")
+OF_PATH(unlink, "unlink") BELOW_FOLDER(unlinkat, "unlink") OF_PATH(rmdir, "unlink")
+OF_PATH(rename, "rename") BELOW_FOLDER(renameat, "rename")
+OF_PATH(link, "link") BELOW_FOLDER(linkat, "link")
