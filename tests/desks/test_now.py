@@ -86,7 +86,7 @@ def test_a_hundred_thousand_lines(new_room):
     """a hundred thousand lines are all in lines.csv, and meanwhile desks are answered"""
     log = Written(new_room.folder)
     log.add("setup", new_room.setup.read_text())
-    log.add_facts("start")
+    log.add("start", "{}")
     for number in range(100_000):
         desk, turn = number % 8 + 1, number // 8 + 1
         log.add("line", f"x {number}", desk, turn)

@@ -15,20 +15,14 @@ import canton as cantons
 import disks
 import places
 from disks import DISK_BYTES, FORMAT_BYTE, PLACES, put
-from places import PROGRAM, ZURICH
-from room import SCRIPTS, Room, formatted
+from places import PROGRAM
+from room import SCRIPTS, Room
 
 READER = SCRIPTS / "zhcount-read"
 REHEARSAL = places.REHEARSAL.read_text()
 SEED = int(os.environ.get("SEED", "20270404"))
 ROUNDS = 300  # of the disks at random, for each kind
-SMALL = """version = 2
-house = 7
-canton_quorum = 49
-constituency = [{name = "Ö,\\"", persons = 10000000}, {name = "b", persons = 1}]
-municipality = [{name = "1", constituency = 2}, {name = "2", constituency = 1}, {name = "3", constituency = 2}]
-group = [{name = "A", stands = [1, 2]}, {name = "B", stands = [2]}, {name = "C", stands = [2, 1]}, {name = "D", stands = [1]}]
-"""
+CANTON = cantons.Canton(cantons.Chance(SEED)).setup()  # in which some lists stand in some constituencies alone
 WIDEST = "\n".join(["version = 1", "house = 400", *(f'[[constituency]]\nname = "{it:040}"\npersons = 1' for it in range(32)),
                     *(f'[[municipality]]\nname = "{it:040}"\nconstituency = {it % 32 + 1}' for it in range(512)),
                     *(f'[[group]]\nname = "{it:040}"\nstands = {list(range(1, 33))}' for it in range(32))])
@@ -73,13 +67,13 @@ def compare(title, disk, setup=REHEARSAL):
 
 
 def fresh(setup):
-    return formatted(setup).read_bytes()
+    with Room(setup) as room:
+        return room.disk.read_bytes()
 
 
 def empty():
     """Fresh disks, and what is not formatted."""
-    setups = [REHEARSAL, SMALL, WIDEST, (ZURICH / "setup.toml").read_text(), cantons.Canton(cantons.Chance(SEED)).setup()]
-    for place, setup in enumerate(setups):
+    for place, setup in enumerate([REHEARSAL, WIDEST, CANTON, (places.ZURICH / "setup.toml").read_text()]):
         yield f"the fresh disk {place}", fresh(setup), setup
     yield "zeros", bytes(DISK_BYTES)
     for length in (0, 1, DISK_BYTES - 1, DISK_BYTES + 1):
@@ -94,7 +88,8 @@ def widest():
         batches += ["open", *rows[begin:begin + 1000], "commit"]
     with Room(WIDEST) as room:
         for title, lines in ("full", batches), ("after a switch", [f"withdraw 512 32 {number}" for number in range(2, 402)]):
-            assert re.findall(r"1 (?!stored|held).*", room.by_hand(*lines)) == [], "the answers that do not store"
+            answers = room.zhcount("run", given="".join(f"1 {it}\n" for it in lines))
+            assert re.findall(r"1 (?!stored|held).*", answers) == [], "the answers that do not store"
             yield f"the widest set-up, {title}", room.disk.read_bytes()
 
 
@@ -111,7 +106,7 @@ def damaged():
     """Bytes at random at places that matter, on used disks of both formats and of both slots."""
     chance, images = random.Random(SEED), dict(disks.kept_images())
     used = put(fresh(REHEARSAL), PLACES["journal1"], disks.journal_of(disks.records_of(chance, 2, 60)))
-    bases = [used, images["kept_images.case: kinds.disk"], images["kept_images.case: both.disk"], fresh(SMALL)]
+    bases = [used, images["kept_images.case: kinds.disk"], images["kept_images.case: both.disk"], fresh(CANTON)]
     spans = [range(15), range(PLACES["setup"], PLACES["setup"] + 70)]
     for slot in (PLACES["slot1"], PLACES["slot2"]):
         spans += [range(slot + begin, slot + end) for begin, end in ((0, 9), (9, 269), (256, 336), (262400, 262440), (262400, 264448))]

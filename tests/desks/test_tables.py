@@ -5,14 +5,12 @@ import os
 import pathlib
 import re
 import signal
-import socket
 
 import pytest
 
 from processes import Desk
 from quiet import QuietRoom
-from room import SCRIPTS, running, until
-from test_socket import HELLO, line_of
+from room import SCRIPTS, running, stand_still, until
 from watch import Stop, WatchedRoom
 
 NAMES = "municipality,list,number,votes\n"
@@ -167,32 +165,33 @@ def test_refused_commit(room, lines, table, line, refusal, shown):
     room.check()
 
 
+# Stops
+
+
+def begun(room):
+    """A desk that enters the table, of which the first line is noted, and the run that has to answer it, which stands still."""
+    run_process = room.run_of_office()
+    stand_still(run_process)
+    desk = started(room, 3, TABLE)
+    until("the office has taken its first line", lambda: room.noted() == ["open"])
+    return desk, run_process
+
+
 def test_closed_meanwhile(room):
     """where another desk closes a municipality as the table is entered, the same command says which row that is"""
-    with socket.socket(socket.AF_UNIX) as other:
-        other.connect(str(room.folder / "desk"))
-        other.sendall(HELLO.replace(b"3", b"2"))
-        assert b"log" in other.recv(65536), "it is let in"
-        run_process = room.run_of_office()
-        os.kill(run_process, signal.SIGSTOP)
-        desk = started(room, 3, TABLE)
-        until("the office has taken its first line", lambda: room.noted() == ["open"])
-        other.sendall(line_of(1, "close 3"))
-        os.kill(run_process, signal.SIGCONT)
-        assert desk.wait() == 1, "the end"
-        desk.says("refused closed; nothing was entered, and the count has changed meanwhile: give the same command again")
+    desk, run_process = begun(room)
+    desk.kill(signal.SIGSTOP)
+    os.kill(run_process, signal.SIGCONT)
+    assert room.ask(2, "close 3").out == ["stored 1"]
+    desk.kill(signal.SIGCONT)
+    assert desk.wait() == 1, "the end"
+    desk.says("refused closed; nothing was entered, and the count has changed meanwhile: give the same command again")
     is_refused(room, 3, TABLE, "desk 3: line 4: row 3 1 1 90: refused closed (show 3 1: none); nothing was entered", out=["refused closed"])
-
-
-# Stops
 
 
 def test_interrupted(room):
     """Ctrl-C leaves a batch open, and says that the same command finishes the table; it does"""
-    run_process = room.run_of_office()
-    os.kill(run_process, signal.SIGSTOP)
-    desk = started(room, 3, TABLE)
-    until("the office has taken its first line", lambda: room.noted() == ["open"])
+    desk, run_process = begun(room)
     desk.kill(signal.SIGINT)
     assert desk.wait() == 1
     desk.says("desk 3: told to end", "without an answer: open; the same command finishes the table")
