@@ -156,11 +156,13 @@ def test_refused_row(room):
 ], ids=["conflict", "withdrawn", "stale", "closed", "gap"])
 def test_refused_commit(room, lines, table, line, refusal, shown):
     """the row that a commit was refused for is found by what is held, and said with its line, also where nothing is held or another row has
-    the next number; the batch is dropped"""
+    the next number, and where a stop left its batch; that is dropped"""
     room.ask(2, *lines)
-    is_refused(room, 3, table, f"desk 3: line {line}: {refusal} ({shown}); nothing was entered", out=[refusal])
-    sent = [*lines_of(table), "drop"]
+    said, sent = f"desk 3: line {line}: {refusal} ({shown}); nothing was entered", [*lines_of(table), "drop"]
+    is_refused(room, 3, table, said, out=[refusal])
     assert [it for it, _ in room.of_desk(3)][:len(sent)] == sent, "what is sent"
+    room.ask(3, *sent[:-2])  # as a stop leaves it
+    is_refused(room, 3, table, said, out=[refusal])
     assert room.ask(3, "commit").out == ["refused nobatch"], "it is dropped"
     room.check()
 
@@ -211,17 +213,6 @@ class StopOf(Stop):
         return self.room.is_of(self.who, call) and call.name != "look"
 
 
-def stops(room, table_of):
-    """Desk 1 enters the table of each number and is stopped before its call of that number, until it is not: the numbers and statuses."""
-    number, status = 0, -signal.SIGKILL
-    while status == -signal.SIGKILL:
-        number += 1
-        StopOf(room, "desk 1", number)
-        status = started(room, 1, table_of(number)).wait()
-        room.before = lambda call: 0
-        yield number, status
-
-
 def versions(number):
     """A table with this version of each return."""
     return NAMES + "".join(f"{it},{number},{number + 10}\n" for it in ("1,1", "1,2", "3,1"))
@@ -236,29 +227,21 @@ def watched_room():
 @pytest.mark.long
 def test_stopped_at_each_call(watched_room):
     """kill -9 of a desk at each of its calls: the table is in whole or not at all, and the same command goes on to its end"""
-    room, none, before = watched_room, ["none"] * 3, 0
-    for version, status in stops(room, versions):
-        held, whole = room.ask(2, *PLACES).out, [f"shows {version} {version + 10}"] * 3
+    room, version, none, sent, status = watched_room, 0, ["none"] * 3, 0, -signal.SIGKILL
+    while status == -signal.SIGKILL:
+        version += 1
+        whole = [f"shows {version} {version + 10}"] * 3
+        StopOf(room, "desk 1", version)
+        status = started(room, 1, versions(version)).wait()
+        room.before = lambda call: 0
+        held = room.ask(2, *PLACES).out
         assert held in ([none, whole] if status else [whole]), f"after call {version} there is {held}"
         is_in(room, 1, versions(version), "same" if held == whole else f"stored {version}")
         assert room.ask(2, *PLACES).out == whole, "all of it is held"
-        sent = len(room.of_desk(1)) - before
-        assert sent == (10 if held == whole else 5), f"lines after a stop at call {version}, where {held}"
-        none, before = whole, before + sent
+        sent += 10 if held == whole else 5
+        assert len(room.of_desk(1)) == sent, f"lines after a stop at call {version}, where {held}"
+        none = whole
     assert (status, version > 7) == (0, True), f"calls: {version - 1}"
-    room.check()
-
-
-@pytest.mark.long
-def test_stopped_as_it_is_refused(watched_room):
-    """the same where the commit is refused: the same command says the row, nothing is entered, and no batch is left"""
-    room = watched_room
-    room.ask(2, "return 1 2 1 301")
-    for number, status in stops(room, lambda _: TABLE):
-        is_refused(room, 1, TABLE, "desk 1: line 3: row 1 2 1 300: refused conflict (show 1 2: shows 1 301); nothing was entered",
-                   out=["refused conflict"])
-        assert room.ask(1, "commit", *PLACES).out == ["refused nobatch", "none", "shows 1 301", "none"], "there is nothing of it"
-    assert (status, number > 9) == (1, True), f"calls: {number - 1}"
     room.check()
 
 
