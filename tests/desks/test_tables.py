@@ -299,9 +299,9 @@ def test_totals(tmp_path, totals_in, text, totals, remarks):
 
 def test_no_totals(tmp_path, totals_in):
     """what is no file of totals is said, and not waited for"""
+    assert totals_in(tmp_path / "none") == ({}, ["FILE can't be read: [Errno 2] No such file or directory: 'FILE'"]), "none"
+    assert totals_in(tmp_path) == ({}, ["FILE can't be read: [Errno 21] Is a directory: 'FILE'"]), "a folder"
     (tmp_path / "long").write_bytes(bytes(2_000_000))
     assert totals_in(tmp_path / "long") == ({}, ["FILE can't be read: it has more than 1048576 bytes"]), "a long one"
     os.mkfifo(tmp_path / "pipe")
-    assert totals_in(tmp_path / "none") == ({}, ["FILE can't be read: [Errno 2] No such file or directory: 'FILE'"]), "none"
-    assert totals_in(tmp_path) == ({}, ["FILE can't be read: [Errno 21] Is a directory: 'FILE'"]), "a folder"
     assert totals_in(tmp_path / "pipe") == ({}, ["FILE can't be read: it is not a file"]), "a pipe"
