@@ -114,7 +114,7 @@ def compare(room, lines, unconfirmed=None, shown=1000):
     if unconfirmed is None:
         rows = [it.split(" ")[1:] for it in lines]
         unconfirmed = "".join(f"{','.join(row)},1,{' NMW'[int(row[0])]},{' ABC'[int(row[1])]}\n" for row in rows)
-    wanted = {**files, "unconfirmed": UNCONFIRMED + unconfirmed, "lines.csv": table_of_lines(room.folder, shown)}
+    wanted = {**files, "lines.csv": table_of_lines(room.folder, shown), "unconfirmed": UNCONFIRMED + unconfirmed}
     compare_folder(now, wanted, ["disk", "publish"])
     compare_folder(now / "publish", published)
     copy = shutil.copyfile(now / "disk", room.path / "copy.disk")
