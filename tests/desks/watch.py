@@ -22,7 +22,7 @@ SECTOR = 512  # bytes that a device writes whole or not at all
 
 @functools.lru_cache(maxsize=None)
 def library():
-    """The folder with what is preloaded, which goes with the tests."""
+    """The folder with what is preloaded, and with the sockets of rooms, which goes with the tests."""
     folder = tempfile.TemporaryDirectory(prefix="watched-")
     subprocess.run(["cc", "-shared", "-fPIC", "-O1", "-o", f"{folder.name}/watched.so", HERE / "watched.c", "-ldl"], check=True)
     return folder
@@ -61,9 +61,8 @@ class WatchedRoom(ApartRoom):
         self.before, self.pids, self.starting = before, set(), threading.Lock()
         self.copy = self.path / "witness/office"
         self.copy.parent.mkdir()
-        self.beside = tempfile.TemporaryDirectory(prefix="watch-")
         self.socket = socket.socket(socket.AF_UNIX)
-        self.socket.bind(f"{self.beside.name}/socket")
+        self.socket.bind(f"{library().name}/{self.path.name}")
         self.socket.listen(64)
         threading.Thread(target=self.watch, daemon=True).start()
 
@@ -87,7 +86,6 @@ class WatchedRoom(ApartRoom):
         super().__exit__(*fault)
         self.socket.shutdown(socket.SHUT_RDWR)
         self.socket.close()
-        self.beside.cleanup()
 
     def process(self, kind, words):
         watched = {"LD_PRELOAD": f"{library().name}/watched.so", "WATCHED": str(self.path), "WATCHER": self.socket.getsockname(),
@@ -126,11 +124,9 @@ class Device:
     its inode; where rooms are in memory, no number comes twice."""
 
     def __init__(self, top):
-        self.top = top
-        self.files, self.folders = {}, {}
-        for folder, _, names in os.walk(top):
-            for path in (folder, *(os.path.join(folder, it) for it in names)):
-                self.sync(path)
+        self.top, self.files, self.folders = top, {}, {}
+        for path in (top, *pathlib.Path(top).rglob("*")):
+            self.sync(path)
 
     def sync(self, path):
         """Takes a file or folder as synced, as it is now."""
