@@ -14,7 +14,6 @@ RETURNS = ["return 1 1 1 525", "return 1 2 1 300", "return 1 3 1 175", "return 2
            "return 3 1 1 90", "return 3 2 1 60", "return 3 3 1 50"]
 CLOSINGS = ["close 1", "close 2", "close 3"]
 NEVER = 3600  # seconds
-HEAD = "number,at,start,desk,turn,line,answer,answered_at"  # of lines.csv
 UNCONFIRMED = "municipality,list,number,votes,desk,municipality_name,list_name\n"
 # The files of `now`, each with the task of the program that writes it.
 FILES = {"status": "status", "missing": "status --missing", "implausible": "status --implausible", "held.csv": "export",
@@ -131,7 +130,7 @@ def compare_folder(folder, wanted, others=()):
 
 def table_of_lines(folder, shown=1000):
     """What lines.csv has to have of the lines of a log that have an answer, up to so many."""
-    rows, start, lines, table = [HEAD.split(",")], 0, {}, io.StringIO()
+    rows, start, lines, table = [["number", "at", "start", "desk", "turn", "line", "answer", "answered_at"]], 0, {}, io.StringIO()
     for it in events(folder):
         start += it.kind == "start"
         if it.kind == "line":

@@ -55,7 +55,7 @@ def serves(room):
 
 
 def kill(room, people, what, chance):
-    """Kills one of these, if there is one: mostly some while after the office serves."""
+    """Kills one of these, mostly some while after the office serves; whether there was one."""
     if chance.random() < 0.7:
         until(lambda: f"the office serves, or has ended: {room.office.said()}", lambda: room.serves() or room.office.has_ended())
     time.sleep(chance.choice(PAUSES) * chance.random())
@@ -65,7 +65,8 @@ def kill(room, people, what, chance):
     with contextlib.suppress(ProcessLookupError):
         if pid:
             os.kill(pid, signal.SIGKILL)
-    return bool(pid)
+            return True
+    return False
 
 
 def night(room, people, victims):

@@ -279,13 +279,12 @@ def totals_in(monkeypatch):
 
 
 @pytest.mark.parametrize("text, totals, remarks", [
-    (b"municipality,votes\n1,1000\n3,200\n", {"1": 1000, "3": 200}, []),
     (b"municipality,votes\n1,1000\n2,\n\n3\n", {"1": 1000}, []),
     (b"municipality,votes\n1,0", {"1": 0}, []),
     (b"\xef\xbb\xbfmunicipality;name;votes\r\n3;\"W; a\xfc\";200\r\n", {"3": 200}, []),
-    (b"municipality,votes\n4,10\n1,1000\n", {"1": 1000}, ["line 2: there is no municipality '4'"]),
-    (b"municipality,votes\n1,1000\n1,1001\n2,600\n", {"1": 1000, "2": 600}, ["line 3: municipality 1 is there already"]),
-    (b"municipality,votes\n1,1'000\n2,-1\n3,200\n", {"3": 200}, [f"line {it} is no number of votes" for it in ('2: "1\'000"', "3: '-1'")]),
+    (b"municipality,votes\n4,10\n1,1000\n1,1001\n2,1'000\n3,-1\n3,200\n", {"1": 1000, "3": 200},
+     ["line 2: there is no municipality '4'", "line 4: municipality 1 is there already",
+      *(f"line {it} is no number of votes" for it in ('5: "1\'000"', "6: '-1'"))]),
     (b"municipality,votes\n\x1b,5\n1,\x07\n", {}, [r"line 2: there is no municipality '\x1b'", r"line 3: '\x07' is no number of votes"]),
     (b"1,1000\n", {}, ["FILE can't be read: line 1 has not the columns municipality and votes"]),
     (b"", {}, ["FILE can't be read: line 1 has not the columns municipality and votes"]),
