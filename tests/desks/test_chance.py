@@ -46,7 +46,7 @@ class Worker(Person):
 
 
 def serves(room):
-    """Whether the office serves, or has ended; then it is started again, as by systemd."""
+    """Starts the office again where it has ended, as systemd would; whether it serves."""
     if room.office.has_ended():
         status = room.office.wait()
         assert status in (1, -signal.SIGKILL), f"the office ends with {status}: {room.office.said()}"
