@@ -202,15 +202,9 @@ def test_interrupted(room):
     assert room.noted() == lines_of(TABLE), "what is sent"
 
 
-class StopOf(Stop):
-    """kill -9 of a desk or of the office before its call of this number, from now on."""
-
-    def __init__(self, room, who, number):
-        super().__init__(number)
-        self.room, self.who, room.before = room, who, self.before
-
-    def counts(self, call):
-        return self.room.is_of(self.who, call) and call.name != "look"
+def stop(room, who, number):
+    """kill -9 of a desk or of the office before its call of this number, from now on; of 0, none."""
+    room.before = Stop(number, lambda call: room.is_of(who, call) and call.name != "look").before
 
 
 def versions(number):
@@ -231,9 +225,9 @@ def test_stopped_at_each_call(watched_room):
     while status == -signal.SIGKILL:
         version += 1
         whole = [f"shows {version} {version + 10}"] * 3
-        StopOf(room, "desk 1", version)
+        stop(room, "desk 1", version)
         status = started(room, 1, versions(version)).wait()
-        room.before = lambda call: 0
+        stop(room, "desk 1", 0)
         held = room.ask(2, *PLACES).out
         assert held in ([none, whole] if status else [whole]), f"after call {version} there is {held}"
         is_in(room, 1, versions(version), "same" if held == whole else f"stored {version}")
@@ -251,13 +245,13 @@ def test_office_is_stopped(watched_room):
     room, version, stops = watched_room, 0, 0
     while stops == version:
         version += 1
-        StopOf(room, "office", 13 * version - 8)
+        stop(room, "office", 13 * version - 8)
         desk = started(room, 1, versions(version))
         until("office or desk has ended", lambda: room.office.has_ended() or desk.has_ended())
         if room.office.has_ended():
             stops += 1
             room.start()
-        room.before = lambda call: 0
+        stop(room, "desk 1", 0)
         assert (desk.wait(), desk.out) == (0, [f"stored {version}"]), f"the end of the desk: {desk.said()}"
     assert stops > 2, f"stops: {stops}"
     room.check({1: room.noted()})

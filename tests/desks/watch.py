@@ -102,10 +102,12 @@ class WatchedRoom(ApartRoom):
 
 
 class Stop:
-    """A stop (kill -9) before the call of this number, of those that count; where it is 0, none."""
+    """A stop (kill -9) before the call of this number, of those that count: by this function, or by a method of the same name."""
 
-    def __init__(self, number):
+    def __init__(self, number, counts=None):
         self.number, self.calls, self.call = number, 0, None
+        if counts:
+            self.counts = counts
 
     def before(self, call):
         if self.counts(call):
