@@ -158,11 +158,11 @@ class Device:
         return self.files.get(ino, b"")
 
     def torn(self, ino, path, chance):
-        """Of each sector what was synced or what is there now, and likewise of the length."""
-        both = self.bytes_of(ino), pathlib.Path(path).read_bytes()
-        size = len(chance.choice(both))
-        sectors = [chance.choice(both)[at:at + SECTOR].ljust(SECTOR, b"\0") for at in range(0, size, SECTOR)]
-        return b"".join(sectors)[:size]
+        """What was synced, but for some of the sectors that are different since, and perhaps the length."""
+        known, now = self.bytes_of(ino), pathlib.Path(path).read_bytes()
+        before, after = known.ljust(len(now), b"\0"), now + known[len(now):]
+        sectors = [chance.choice((before, after))[at:at + SECTOR] for at in range(0, len(before), SECTOR)]
+        return b"".join(sectors)[:chance.choice((len(known), len(now)))]
 
     def synced(self, path):
         """What of a file is on the device; nothing where its name is not."""
