@@ -28,7 +28,7 @@ def test_nothing_is_overwritten(written):
         before = os.lstat(path)
         said = written.zhcount_office("--rebuild", written.folder, path, status=1)
         assert f"{path} is there already" in said, f"a {path.name}"
-        assert os.lstat(path) == before, "it is left"
+        assert (os.lstat(path), os.lstat(path).st_mtime_ns) == (before, before.st_mtime_ns), "it is left"
     written.stands_in(f"[ $1 = export ] && echo mine > '{written.new}'")
     assert "not made: [Errno 17] File exists: " in written.rebuild(status=1), "it is said"
     assert written.new.read_bytes() == b"mine\n", "one that came"

@@ -56,8 +56,8 @@ def is_refused(room, number, table, *texts, out=()):
 
 
 def test_forms(room):
-    """Excel's semicolons, byte order mark, CR LF, quoted cells and German titles; commas, other columns first, a blank line, another end of
-    lines, standard input: it is the same table, and the answer to its commit is shown; that a file is not there is said"""
+    """a table is the same as Excel writes it (semicolons, a byte order mark, CR LF, quoted cells, German titles), with commas, another order
+    of the columns, a blank line, other line ends, from standard input; its commit's answer is shown, and so is that there is no such file"""
     tables = [EXCEL, TABLE, TABLE.replace("\n", "\r\n"), "\ufeff" + TABLE, EXCEL[1:].replace("\r\n", "\r"),
               "votes;number;list;municipality\n525;1;1;1\n\n300;1;2;1\n90;1;1;3\n"]
     for number, table in enumerate(tables):
