@@ -56,8 +56,8 @@ def is_refused(room, number, table, *texts, out=()):
 
 
 def test_forms(room):
-    """a table is the same as Excel writes it (semicolons, a byte order mark, CR LF, quoted cells, German titles), with commas, another order
-    of the columns, a blank line, other line ends, from standard input; its commit's answer is shown, and so is that there is no such file"""
+    """a table of Excel (semicolons, a byte order mark, CR LF, quoted cells, German titles), one with commas, another order of the columns,
+    a blank line or other line ends, and one from standard input are the same; the answer to its commit is shown. No such file is said"""
     tables = [EXCEL, TABLE, TABLE.replace("\n", "\r\n"), "\ufeff" + TABLE, EXCEL[1:].replace("\r\n", "\r"),
               "votes;number;list;municipality\n525;1;1;1\n\n300;1;2;1\n90;1;1;3\n"]
     for number, table in enumerate(tables):
