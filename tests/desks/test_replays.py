@@ -1,92 +1,79 @@
-"""Tests of zhcount-office --replay: what it compares, in a log whose sums all follow, and what is no difference; a rebuild, which goes
-through the same loop, sees the same, and makes nothing then."""
+"""Tests of zhcount-office --replay and --rebuild, which go through one loop: what they compare, in a log whose sums all follow, and what is
+no difference; and what the disk has that is made anew, whatever stops kept or lost, and whatever came by hand."""
+import base64
 import json
+import zlib
 
 import pytest
 
-from places import PROGRAM
+from nights import Night
+from places import PROGRAM, REHEARSAL
 
 LINES = ["1 return 1 1 1 525", "2 return 2 1 1 240", "1 return 3 1 1 90", "1 sheet", "1 withdraw 3 1 2", "1 open", "1 row 1 2 1 300",
          "1 commit"]
+STRANGE = REHEARSAL.read_text().replace('"Nord"', '"No\u2028rd"').replace('"Mitte"', '"Mi\u0085t\u2029"')
 
 
 @pytest.fixture
-def written(night):
-    """A night of two starts, at whose end a replay says the same."""
-    night.begin(LINES)
-    night.begin(["2 return 2 2 1 330", "3 show 1 1", "1 last 1 1", "1 close 1"])
-    night.end()
-    night.put()
-    return night
-
-
-def event_of(night, kind, text):
-    return next(it for it in night.log.events if it.kind == kind and text in it.text)
+def written():
+    """A night of two starts, with nothing that is a difference: names have characters that some take for line ends, and the first end could
+    not look at the disk, so that it has noted nothing that can be compared."""
+    with Night(setup=STRANGE) as night:
+        night.begin(LINES)
+        night.begin(["2 return 2 2 1 330", "3 show 1 1", "1 last 1 1", "1 close 1"])
+        ended = next(it.text for it in night.log.events if it.kind == "ended")
+        night.log = night.log.edited("ended", ended, ended, json.dumps({"reason": "no reason", "commands": None, "export": None}))
+        yield night.put()
 
 
 def test_the_same(written):
     """replay and rebuild say what they have compared, and the sum of the last event"""
     last = written.log.events[-1]
     wanted = f"the same: the answers to 12 lines in 2 starts, and the export\nevent {last.number}: {last.sum}\n"
-    assert written.replay() == wanted, "a replay"
-    assert written.rebuild() == wanted, "a rebuild"
+    assert (written.replay(), written.rebuild()) == (wanted, wanted)
 
 
-@pytest.mark.parametrize("kind, text, old, new, wanted", [
-    ("answer", "stored 6", "6", "9", "desk 2: return 2 2 1 330: noted is 'stored 9', and here 'stored 6'"),
-    ("answer", "stored 4", "stored 4", "stored 5", "desk 1: withdraw 3 1 2: noted is 'stored 5', and here 'stored 4'"),
-    ("answer", "shows", "shows 1 525", "none", "desk 3: show 1 1: noted is 'none', and here 'shows 1 525'"),
-    ("answer", "sheet", "sheet provisional 3 ", "sheet provisional 3 1", "desk 1: sheet: noted is 'sheet provisional 3 1"),
-    ("line", "return 1 1 1 525", "525", "526", "desk 1: sheet: noted is 'sheet provisional 3 "),
-    ("line", "return 2 2 1 330", "330", "331", ", ended: export: noted is '"),
-    ("line", "withdraw 3 1 2", "3 1 2", "3 1 3", "desk 1: withdraw 3 1 3: noted is 'stored 4', and here 'refused gap'"),
-    ("start", '"commands": 5', '": 5', '": 9', "start: commands: noted is '9', and here '5'"),
-    ("ended", '"commands": 7', '": 7', '": 8', "ended: commands: noted is '8', and here '7'"),
-    ("start", '"commands": 5', '"export": "', '"export": "0', "start: export: noted is '0"),
-    ("ended", '"commands": 7', '"export": "', '"export": "0', "ended: export: noted is '0"),
-])
-def test_a_difference(written, kind, text, old, new, wanted):
+def test_a_difference(written):
     """another answer, line, sheet, or state at a start or an end is seen, where each sum follows; the first place of it is said"""
-    event = event_of(written, kind, text)
-    written.log.edited(event.number, old, new).put()
-    written.both_refuse(wanted)
-
-
-def test_end_that_could_not_look(written):
-    """an end that could not look at the disk has noted nothing that can be compared"""
-    event = written.log.events[-1]
-    other = written.log.edited(event.number, event.text, json.dumps({"reason": "no reason", "commands": None, "export": None}))
-    other.put()
-    assert "the same: " in written.replay(), "a replay"
+    for kind, within, old, new, wanted in [
+            ("answer", "stored 6", "6", "9", "desk 2: return 2 2 1 330: noted is 'stored 9', and here 'stored 6'"),
+            ("answer", "stored 4", "stored 4", "stored 5", "desk 1: withdraw 3 1 2: noted is 'stored 5', and here 'stored 4'"),
+            ("answer", "shows", "shows 1 525", "none", "desk 3: show 1 1: noted is 'none', and here 'shows 1 525'"),
+            ("answer", "sheet", "sheet provisional 3 ", "sheet provisional 3 1", "desk 1: sheet: noted is 'sheet provisional 3 1"),
+            ("line", "return 1 1 1 525", "525", "526", "desk 1: sheet: noted is 'sheet provisional 3 "),
+            ("line", "return 2 2 1 330", "330", "331", ", ended: export: noted is '"),
+            ("line", "withdraw 3 1 2", "3 1 2", "3 1 3", "desk 1: withdraw 3 1 3: noted is 'stored 4', and here 'refused gap'"),
+            ("start", '"commands": 5', '": 5', '": 9', "start: commands: noted is '9', and here '5'"),
+            ("ended", '"commands": 7', '": 7', '": 8', "ended: commands: noted is '8', and here '7'"),
+            ("start", '"commands": 5', '"export": "', '"export": "0', "start: export: noted is '0"),
+            ("ended", '"commands": 7', '"export": "', '"export": "0', "ended: export: noted is '0")]:
+        written.log.edited(kind, within, old, new).put()
+        written.both_refuse(wanted)
 
 
 def test_another_program(written):
     """another program than that of the log is said, with both sums, once, and is no difference"""
-    program, other, log = event_of(written, "start", '"program"').facts()["program"], "12" * 32, written.log
-    for event in [it for it in log.events if it.kind == "start"]:
-        log = log.edited(event.number, program, other)
-    log.put()
+    program, other = written.log.events[1].facts()["program"], "12" * 32
+    written.log.edited("start", program, program, other).put()
     wanted = f"zhcount is another one here: its SHA-256 is {program}, and in start 1 it was {other}\nthe same: "
     for said in (written.replay(), written.rebuild()):
         assert said.startswith(wanted), f"it is said: {said}"
-    written.log.put()
-    assert "another program" not in written.replay(), "the same one is not"
 
 
-def test_dropped_batch(night):
-    """a batch that a start has dropped, since its rows were refused then, has no rows any more"""
-    night.begin(["1 open", "1 row 1 1 1 525", "2 return 2 1 1 240"])
-    night.drop(1, "row 1 1 1 525: refused memory")
-    night.begin(["1 commit", "1 open", "1 row 1 1 1 526", "1 commit"])
-    night.end()
-    assert night.made()[1] == "municipality,list,number,votes\n1,1,1,526\n2,1,1,240\n", "what is held"
+def test_passed_over(night):
+    """a line that was refused for want of memory changed nothing; a batch that a start has dropped has no rows any more"""
+    night.begin(["1 return 9 1 1 5", "1 return 1 1 1 525", "1 open", "1 row 2 1 1 240"])
+    night.edits_answers("s/held 1/refused memory/")
+    night.begin(["1 commit", "1 return 2 1 1 241"])
+    night.environment["ZHCOUNT"] = str(PROGRAM)
+    night.log = night.log.edited("answer", "refused municipality", "municipality", "memory")
+    assert night.made()[1] == "municipality,list,number,votes\n1,1,1,525\n2,1,1,241\n", "what is held"
     assert "the same: " in night.replay(), "a replay"
 
 
 def test_programs_that_fail(night):
     """a run that ends before its last answer is a fault, as is a program that fails, or is not there"""
     night.begin(["1 return 1 1 1 525", "2 return 2 1 1 240"])
-    night.put()
     two_lines = f"for line in 1 2; do IFS= read -r line; printf '%s\\n' \"$line\"; done | '{PROGRAM}' \"$@\""
     for task, does, wanted in [("run", f"{two_lines}; exit", "zhcount run has ended"), ("run", "echo ill >&2; exit 1", "ill"),
                                *((it, "echo ill >&2; exit 1", f"zhcount {it}: ill") for it in ("format", "export", "status"))]:
@@ -97,15 +84,56 @@ def test_programs_that_fail(night):
 
 
 def test_nothing_to_run(night):
-    """a folder without a log, one of an older zhcount, and a log without a start are said to be so"""
-    night.folder.mkdir(0o2750)
+    """a folder without a log, one of an older zhcount, and a log without a start, or that somebody has changed, are said to be so"""
+    night.folder.mkdir()
     night.folder.chmod(0o2750)
     night.both_refuse(f"{night.folder} has no night.db")
     (night.folder / "protocol").touch()
     night.both_refuse(f"{night.folder} has the transcripts of an older zhcount")
     (night.folder / "protocol").unlink()
-    night.log.events.clear()
-    night.put()
-    night.both_refuse("has no start yet")
+    night.put().both_refuse("has no start yet")
+    setup = night.log.add("setup", night.setup.read_text())
+    night.log.events[0] = setup._replace(text="another")
+    night.put().both_refuse("event 1 does not follow the one before it: somebody has changed the log")
     night.folder.rename(night.path / "moved")
     night.both_refuse("night.db")
+
+
+def test_stops(night):
+    """a line that a stop kept or lost has its answer in the next start, also in a batch that was open then; one without an answer is left
+    out, which is said, and an office that goes on with the disk that is made gives it"""
+    night.begin(["1 open", "1 row 1 1 1 525", "2 open", "2 row 2 1 1 240", "2 row 2 2 1 330"], is_stored=True)
+    night.begin(["1 row 1 2 1 300", "2 commit", "1 commit"], is_stored=True)
+    night.begin(["3 sheet", "1 open", "1 row 1 3 1 90", "1 drop", "1 close 3"], is_stored=False)
+    night.begin(["4 return 2 3 1 30"], is_stored=True)
+    said, export = night.made()
+    assert export == "municipality,list,number,votes\n1,1,1,525\n1,2,1,300\n2,1,1,240\n2,2,1,330\n", "what is held"
+    assert ",closed," in night.zhcount("status", disk=night.new), f"the closing was given again: {said}"
+    assert said.startswith("the same: the answers to 13 lines in 4 starts, and the export\n"), f"what was compared: {said}"
+    assert "desk 4: return 2 3 1 30: not answered, and left out\n" in said, f"what is left out: {said}"
+    night.disk = night.new
+    night.start()
+    night.ask(4, "return 3 1 1 5").says("before: return 2 3 1 30: stored 4")
+    night.check()
+
+
+def test_by_hand(night):
+    """what came by hand, withdrawals and closings too, is in an image, which has to be that of the log; a rebuild goes on from the last,
+    whatever was noted before it, and says so, and a replay from the first"""
+    night.load("1,1,1,525", "1,2,1,300")
+    night.zhcount_office("--take", night.setup, night.disk, night.folder)
+    night.begin(["1 return 2 1 1 240", "1 return 1 1 2 530"], is_stored=False)
+    night.by_hand("withdraw 2 1 2", "close 3", "return 2 2 1 330")
+    image = night.disk.read_bytes()
+    night.begin(["2 return 2 3 1 30"])
+    whole, loaded = night.log, [it for it in night.log.events if it.kind == "loaded"][-1]
+    assert zlib.decompress(base64.b64decode(loaded.facts()["image"])) == image, "the image"
+    night.log = whole.edited("answer", "stored 2", "stored 2", "stored 7")
+    said, export = night.made()
+    assert export == "municipality,list,number,votes\n1,1,2,530\n1,2,1,300\n2,1,2,withdrawn\n2,2,1,330\n2,3,1,30\n", "what is held"
+    assert ",closed," in night.zhcount("status", disk=night.new), "the closing is there"
+    assert f"event {loaded.number}: what came by hand before it is in its image" in said, f"it says so: {said}"
+    assert "desk 1: return 2 1 1 240: noted is 'stored 7', and here 'stored 2'" in night.replay(status=1), "the first answer"
+    for old, new in [("2,2,1,330", "2,2,1,331"), ('"closed": ["3"]', '"closed": ["2"]'), ('"commands": 5', '"commands": 6')]:
+        whole.edited("loaded", '"commands": 5', old, new).put()
+        night.both_refuse("it is not the disk of this log")

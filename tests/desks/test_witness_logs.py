@@ -1,98 +1,62 @@
 """Tests of the log of a witness: which one an office takes for its own, what of it is on the device when that is said, and in which pieces
-it comes."""
+it comes; and what zhcount-witness takes, and from whom: the folder, who has it, and messages of any kind."""
+import json
 import os
+import re
 import shutil
 import signal
+import threading
 
 import pytest
 
 from logs import Written, events
-from nights import Night
-from processes import stays, until
+from processes import Process, stays, until
 from watch import WatchedRoom
 from witnessed import Witnessed
 
 ROOM = Witnessed
+GREETING, NO_FORM = {"number": 0, "sum": ""}, "what came is not what an office says"
 
 
-# Another log, or a longer one
-
-
-def other_log(room):
-    """Gives the witness, once it has ended, another log than the office's, of as many events: these."""
-    until("the witness has ended", lambda: not room.witness())
-    other = Written(room.copy)
-    for it in room.events():
-        other.add(it.kind, it.text.replace("525", "526"), it.desk, it.turn)
-    other.put()
-    return events(room.copy)
-
-
-def test_another_log_at_the_start(room):
-    """a witness that has another log is refused at the start, with status 3, and nothing is noted there"""
-    room.ask(1, "return 1 1 1 525")
-    room.stop()
-    other, own = other_log(room), room.events()
-    room.refuses("the witness's log differs from that of")
-    assert events(room.copy) == other, "the other's log"
-    assert room.events() == own, "the own one has nothing new"
-
-
-@pytest.mark.parametrize("was_there", [False, True])
-def test_another_log_in_the_night(new_room, was_there):
-    """a witness that comes in the night with another log, as that of the drills, or comes back with one, is none, and the office goes on"""
+@pytest.mark.parametrize("is_longer", [False, True], ids=["another", "longer"])
+@pytest.mark.parametrize("when", ["at a start", "in the night", "back again"])
+def test_another_log(new_room, when, is_longer):
+    """a witness that has another log, as that of the drills, or more of the same, as where the folder is an older copy, is status 3 at a
+    start, with the sentence what to do; one that comes in the night, or comes back, is none, and the office goes on. No log changes"""
     room = new_room
-    if not was_there:
+    if when == "in the night":
         room.away.touch()
     room.start()
     desk = room.desk(1).talk("return 1 1 1 525 -> stored 1")
-    if was_there:
+    if when != "in the night":
         room.has_all()
-        room.lose_witness()
-    desk.says("no witness since")
-    other = other_log(room)
-    room.away.unlink()
-    room.office.says("still no witness: the witness's log differs")
-    desk.talk("return 1 1 2 530 -> stored 2")
-    assert events(room.copy) == other, "the other's log"
-    assert room.stop() == 0
-
-
-@pytest.mark.parametrize("is_start", [True, False], ids=["at the start", "in the night"])
-def test_longer_log(room, is_start):
-    """a witness that has more of the same log, as where the folder is an older copy, is status 3 at a start, with the sentence how to
-    rebuild; one that comes in the night, when the start is in one log alone, is none, and the office goes on"""
-    room.ask(1, "return 1 1 1 525")
-    room.has_all()
-    room.stop()
-    folder = shutil.copytree(room.folder, room.path / "kept", ignore=shutil.ignore_patterns("desk", "now*"))
-    disk = shutil.copyfile(room.disk, room.path / "kept.disk")
-    room.start()
-    assert room.ask(1, "return 1 1 2 530").out == ["stored 2"]
-    room.has_all()
-    room.stop()
-    until("the witness has ended", lambda: not room.witness())
-    shutil.rmtree(room.folder)
-    folder.rename(room.folder)
-    room.folder.chmod(0o2750)
-    disk.rename(room.disk)
-    before = events(room.copy)
-    if is_start:
-        room.refuses(f"the first {len(room.events())} of them: if the count went on there, make the disk from that folder by --rebuild")
-        export = room.zhcount("export", disk=room.rebuilt_from_witness())
-        assert export == "municipality,list,number,votes\n1,1,2,530\n", "what the disk made of it holds"
+    if when == "at a start":
+        room.stop()
     else:
-        room.away.touch()
-        room.start()
-        room.office.says("no witness since")
+        room.lose_witness()
+        desk.says("no witness since")
+    until("the witness has ended", lambda: not room.witness())
+    own, why = room.events(), "the witness's log differs from that of"
+    log = Written(room.copy, own)
+    if is_longer:
+        why = f"the first {len(own)} of them: if the count went on there, make the disk from that folder by --rebuild"
+        log.add("line", "return 1 1 2 530", 1, 2)
+        log.add("answer", "stored 2", 1, 2)
+    else:
+        log = log.edited("line", "525", "525", "526")
+    log.put()
+    if when == "at a start":
+        room.refuses(why)
+        assert room.events() == own, "the own one has nothing new"
+    else:
         room.away.unlink()
-        room.office.says("still no witness: the witness's log differs from that of")
-        room.desk(1).talk("return 1 1 2 531 -> stored 2")
+        room.office.says("still no witness: the witness", why)
+        desk.talk("return 1 1 2 531 -> stored 2")
         assert room.stop() == 0
-    assert events(room.copy) == before, "the witness's log"
-
-
-# What is on the device
+    assert events(room.copy) == log.events, "the witness's log"
+    if is_longer:
+        room.moves()
+        assert room.zhcount("export") == "municipality,list,number,votes\n1,1,2,530\n", "what the disk made of it holds"
 
 
 def test_nothing_is_shown_that_it_has_not_written():
@@ -118,39 +82,115 @@ def test_nothing_is_shown_that_it_has_not_written():
         room.stop()
 
 
-class LongNight(Night, Witnessed):
-    """A night with lines that are long as they are spelt, and a witness that has none of them."""
-
-    def __init__(self):
-        super().__init__()
-        self.begin([f"{1 + number % 8} " + r"\xff" * 117 + f"{number:04}" for number in range(500)])
-        self.end()
-        self.put()
-
-
-def test_in_pieces():
-    """a witness that lacks much gets it in messages of at most 64 KB"""
-    with LongNight() as room:
-        came = room.path / "came"
-        room.options = ["--witness", f"sh -c \"tee '{came}' | '{room.command}'\""]
-        room.start()
-        room.has_all()
-        sizes = [len(it) + 1 for it in came.read_bytes().split(b"\n")]
-        assert sum(sizes) > 300_000 and 20_000 < max(sizes) <= 65536, f"messages: {sizes}"
-        room.stop()
-
-
 @pytest.mark.xdist_group("times")
-def test_progress_is_life():
-    """a witness that lacks much is there for as long as it takes in one message after the other, however long all of it takes"""
+def test_much():
+    """a start waits for a witness that lacks much, which gets it in messages of at most 64 KB, and is there for as long as it takes in one
+    message after the other, however long all of it takes"""
     for _ in range(3):  # on a busy machine one message alone may take longer than a witness may be silent
-        with LongNight().measures("SILENCE", "PATIENCE") as room:
+        with Witnessed().measures("SILENCE", "PATIENCE") as room:
+            came, room.options = room.path / "came", []
+            room.start()
+            room.desk(1).end(b"".join(b"\xff" * 117 + b"%04d\n" % number for number in range(500)))
+            room.stop()
+            room.options = ["--witness", f"sh -c \"tee '{came}' | '{room.command}'\""]
             room.is_slow(0.4)
             room.start()
             room.has_all()
-            said = room.office.said()
-            room.is_slow(0)
-            room.stop()
-        if "no witness" not in said:
+            said, sizes = [*room.office.error], [len(it) + 1 for it in came.read_bytes().split(b"\n")]
+        if not any("no witness" in it for it in said):
             break
-    assert "no witness" not in said and "the witness has been connected" in said, f"it is there: {said}"
+    assert not any("no witness" in it for it in said), f"it is there: {said}"
+    assert "the witness has been connected since" in said[0] and "desks can send lines" in said[-1], f"it was there first: {said}"
+    assert sum(sizes) > 300_000 and 20_000 < max(sizes) <= 65536, f"messages: {sizes}"
+
+
+# What a witness takes
+
+
+def test_waits_for_the_one_before(new_room):
+    """a folder that another witness has is waited for by a witness and by an office, which say for whom; one that hears nothing for 20
+    seconds ends"""
+    first, is_left = new_room.process(Process, new_room.script("zhcount-witness", new_room.copy)), threading.Event()
+    first.write(f"{json.dumps(GREETING)}\n")
+    until("it is ready", lambda: first.out)
+
+    def speak():
+        while not is_left.wait(1):
+            first.write('{"events": "[]", "more": false}\n')
+    speaking = threading.Thread(target=speak, daemon=True)
+    speaking.start()
+    said = new_room.zhcount_office("--rebuild", new_room.copy, new_room.other / "new", status=1)
+    assert f"another office, witness or replay has {new_room.copy}" in said, f"a rebuild meanwhile: {said}"
+    new_room.start(is_awaited=False)
+    new_room.office.says(f"the witness waits for zhcount-witness, process {first.process.pid} of ")
+    is_left.set()
+    speaking.join()
+    new_room.await_start()
+    first.ends_with(1, "the first")
+    assert first.said() == f"zhcount-witness: {new_room.copy}: nothing has come for 20 seconds", "what it says"
+    new_room.office.says("the witness has been connected since")
+    assert new_room.ask(1, "return 1 1 1 525").out == ["stored 1"]
+    new_room.has_all()
+    disk = shutil.copyfile(new_room.disk, new_room.other / "saved.disk")
+    second = new_room.process(Process, new_room.script("zhcount-office", new_room.setup, disk, new_room.copy))
+    second.says(f"waiting for the end of zhcount-witness, process {new_room.witness()} of ")
+    new_room.stop(signal.SIGKILL)
+    second.says("desks can send lines")
+
+
+def spoken(room, *messages, folder=None):
+    """A witness to which this was said by somebody, and how it ends."""
+    witness = room.process(Process, room.script("zhcount-witness", folder or room.copy))
+    witness.status = witness.end("".join(f"{it if isinstance(it, str) else json.dumps(it)}\n" for it in (GREETING, *messages)))
+    return witness
+
+
+def listed(*found):
+    return {"events": json.dumps(found), "more": False}
+
+
+def in_two(*found):
+    """The same in two messages."""
+    text = json.dumps(found)
+    return [{"events": text[:40], "more": True}, {"events": text[40:], "more": False}]
+
+
+def test_refused_folder(new_room):
+    """a folder that others may use, and one that can't be made, are refused by a text"""
+    new_room.copy.mkdir()
+    new_room.copy.chmod(0o755)
+    for folder, said in [(new_room.copy, f"others may use {new_room.copy}: 'chmod 2750 {new_room.copy}' makes it right"),
+                         (new_room.other / "no/copy", "No such file or directory")]:
+        refused = spoken(new_room, folder=folder)
+        assert refused.status == 1, f"the status: {refused.said()}"
+        assert re.match(rf"zhcount-witness: {folder}: .*{re.escape(said)}", refused.said()), f"it says so: {refused.said()}"
+
+
+def test_what_follows(new_room):
+    """events that follow are taken, all of a message or none; others, and what is no message, are refused by a text"""
+    log = Written(new_room.copy)
+    first, second, third = (log.add("setup", "x"), log.add("start", json.dumps({"commands": 0})), log.add("line", "show 1 1", 1, 1))
+    taken = spoken(new_room, listed(first), listed())
+    assert (taken.status, [json.loads(it)["number"] for it in taken.out]) == (0, [0, 1, 1]), f"what it said: {taken.said()}"
+    changed = second._replace(text="y")
+    for messages, said in [*(([listed(it)], "does not follow") for it in (changed, third, first)),
+                           ([listed(second, changed)], "does not follow"), (in_two(second, changed), "does not follow"),
+                           (["x"], "no message"), (["[]"], "no message"), (["[" * 10000], "no message"), (["{}"], NO_FORM),
+                           *(([{"events": it, "more": False}], NO_FORM) for it in ("x", 5, "[[1, 2]]", "[5]"))]:
+        refused = spoken(new_room, *messages)
+        assert refused.status == 1, f"the status after {messages}: {refused.said()}"
+        assert said in refused.said() and refused.said().count("\n") == 0, f"it says so, {messages}: {refused.said()}"
+        assert events(new_room.copy) == [first], "what it has"
+    taken = spoken(new_room, *in_two(second, third))
+    assert (taken.status, events(new_room.copy)) == (0, [first, second, third]), f"what it has: {taken.said()}"
+
+
+def test_checkpoints(new_room):
+    """what a witness has taken is not brought into night.db by SQLite itself, which says nothing of errors, however much it is"""
+    witness = new_room.process(Process, new_room.script("zhcount-witness", new_room.copy))
+    much = listed(Written(new_room.copy).add("setup", "x" * 4_150_000))
+    witness.write(f"{json.dumps(GREETING)}\n{json.dumps(much)}\n")
+    until("it is taken", lambda: len(witness.out) == 2)
+    assert (new_room.copy / "night.db").stat().st_size < 1 << 20, "night.db has none of it"
+    assert witness.end() == 0, f"the end: {witness.said()}"
+    assert (new_room.copy / "night.db").stat().st_size > 4 << 20 - 1, "and then all of it"
