@@ -158,10 +158,10 @@ def test_ends_without_its_child():
                 child = until("the last copy has a child", lambda it=child: room.child() != it and room.child())
                 stays("it waits", lambda: not room.office.has_ended())
             room.office.kill(signal.SIGTERM if is_told else signal.SIGKILL)
-            assert room.office.wait() == (0 if is_told else -signal.SIGKILL)
+            until("the office has ended", room.office.has_ended)
             room.goes_on()
             until("its child has ended", lambda it=child: not command_of(it))
-            assert names_of_now(room) == ["now-1"], "what is there"
+            assert (room.office.wait(), names_of_now(room)) == (0 if is_told else -signal.SIGKILL, ["now-1"]), "what is there"
             (room.folder / "now-7-7").mkdir()
             (room.folder / "now").symlink_to("now-7-7")
         room.start()
@@ -170,8 +170,8 @@ def test_ends_without_its_child():
 
 
 class InNow(Stop):
-    """A stop of the office, or of its child, or a fault, before the call of this number in `now`, once that is there, while it shows two
-    more commands."""
+    """A stop of the office, or of its child, or a fault, before the call of this number in `now`, once that is there, while it shows
+    another command; and then one more."""
 
     def __init__(self, scripts, fault, number=0):
         super().__init__(number)
@@ -194,12 +194,13 @@ class InNow(Stop):
             room.start(is_awaited=False)
             self.until("now-0", lambda: link_of(room) == "now-0")
             desk = room.desk(1)
-            for number, line in enumerate(RETURNS[:3], 1):
-                self.is_over = number == 3
-                desk.write(f"{line}\n")
-                self.until(f"now-{number}", lambda it=number: len(desk.out) == it and link_of(room) == f"now-{it}")
-            self.until("nothing else stays", lambda: names_of_now(room) == ["now", "now-3"])
-            assert (room.folder / "now/held.csv").read_text().split("\n")[1:] == ["1,1,1,525", "1,2,1,300", "1,3,1,175", ""], "the rows"
+            desk.write(f"{RETURNS[0]}\n")
+            self.until("now-1", lambda: desk.out and link_of(room) == "now-1")
+            self.until("now-1 alone", lambda: names_of_now(room) == ["now", "now-1"] or self.fault and self.call)
+            self.is_over = True
+            desk.write(f"{RETURNS[1]}\n")
+            self.until("now-2 alone", lambda: link_of(room) == "now-2" and names_of_now(room) == ["now", "now-2"])
+            assert (room.folder / "now/held.csv").read_text() == "municipality,list,number,votes\n1,1,1,525\n1,2,1,300\n", "the rows"
         assert all(self.has_shown) or self.number and not self.fault, "it leads to something each time"
         return self
 
@@ -215,6 +216,6 @@ def test_stopped(new_room, fault):
     """kill -9 of the office and of its child, or a fault, at each of their calls that make, change or remove something of `now`: that shows
     all in the end, and nothing else; where nothing is stopped it leads to old files or to new ones, never to a folder that is gone"""
     calls = InNow(new_room.scripts, fault).run().calls
-    assert calls > 30, f"calls: {calls}"
+    assert calls > 15, f"calls: {calls}"
     with concurrent.futures.ThreadPoolExecutor(5) as pool:
         list(pool.map(lambda number: InNow(new_room.scripts, fault, number).run(), range(1, calls + 1)))
