@@ -58,8 +58,8 @@ def test_waits_for_it():
         desk, waiting = room.desk(1).talk("return 1 1 1 525 -> stored 1"), "waiting for the witness since"
         room.signal(signal.SIGSTOP)
         room.note(desk, "return 1 1 2 530")
-        stays("no answer is shown", lambda: len(desk.out) == 1, 7)
         desk.says(waiting)
+        stays("no answer is shown", lambda: len(desk.out) == 1, 2)
         assert room.said_of_it().startswith(waiting), "the folder says it"
         room.signal(signal.SIGCONT)
         assert desk.answer() == "stored 2"

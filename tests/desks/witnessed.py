@@ -34,8 +34,7 @@ class Witnessed(Room):
         self.measures()
         self.other = pathlib.Path(tempfile.mkdtemp(prefix="witness-", dir="/var/tmp" if on_device else self.shared()))
         self.copy, self.away, self.pid, self.delay, self.command = (self.other / it for it in ("copy", "away", "pid", "delay", "command"))
-        paths = {it: str(getattr(self, it)) for it in ("copy", "away", "pid", "delay")}
-        self.command.write_text(COMMAND.format(python=sys.executable, script=SCRIPTS / "zhcount-witness", **paths))
+        self.command.write_text(COMMAND.format(python=sys.executable, script=SCRIPTS / "zhcount-witness", **vars(self)))
         self.command.chmod(0o755)
         self.options = ["--witness", str(self.command), *options]
 
@@ -120,10 +119,11 @@ class Entering:
     def lose_office(self):
         """The office's machine burns, with all that it has but the witness, if that stands beside, and the night goes on at the witness's:
         what desks were shown holds there, and there they go on. How many answers they were shown."""
-        room, office = self.room, self.room.office
-        for it in {office.process.pid, *room.children_of(office)} - {room.witness()}:
+        room, office, witness = self.room, self.room.office, self.room.witness()
+        for it in [office.process.pid, *room.children_of(office)]:
             with contextlib.suppress(ProcessLookupError):
-                os.kill(it, signal.SIGKILL)
+                if it != witness:
+                    os.kill(it, signal.SIGKILL)
         office.wait()
         shutil.rmtree(room.folder)
         room.disk.unlink()
