@@ -31,9 +31,6 @@ class Event(NamedTuple):
         return json.loads(self.text)
 
 
-# What a log has
-
-
 def events(folder, *kinds: str) -> List[Event]:
     """All events of a folder, or those of these kinds. An office has the log for itself: a copy is read, of the log and of what was written
     since its last checkpoint, both as they were at one time."""
@@ -66,9 +63,6 @@ def check_chain(folder) -> None:
     for number, it in enumerate(events(folder), 1):
         assert (it.number, it.sum) == (number, it.sum_after(before)), f"event {number} of {folder} follows"
         before = it.sum
-
-
-# A log that is written here
 
 
 def noted(answer: str) -> str:

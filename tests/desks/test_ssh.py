@@ -15,7 +15,6 @@ import time
 
 import pytest
 
-from logs import check_chain
 from processes import SECONDS, Desk, until
 from room import Room, let_in, running
 from witnessed import Entering, Witnessed
@@ -66,7 +65,7 @@ class SshRoom(Room):
         settings = ["BatchMode=yes", "IdentitiesOnly=yes", "StrictHostKeyChecking=no", f"UserKnownHostsFile={self.keys}/known",
                     f"ProxyCommand=setsid /usr/sbin/sshd -i -f {self.keys}/config"]
         options = [it for setting in settings for it in ("-o", setting)]
-        return ["ssh", "-F", "/dev/null", "-i", f"{self.keys}/{key}", *options, f"{getpass.getuser()}@office", *words]
+        return ["ssh", "-F", "/dev/null", "-i", f"{self.keys}/{key}", *options, f"{getpass.getuser()}@office", *map(str, words)]
 
     def desk(self, number, *_):
         return self.process(Desk, self.words(number, "-T"))
@@ -100,7 +99,6 @@ def test_side_by_side(room):
     room.restart()
     assert [it.end() for it in entering.desks.values()] == [0] * 8, "the ends of the desks"
     assert "the same: " in room.check(entering.lines), "a replay"
-    check_chain(room.folder)
 
 
 def connects(entering, number):
@@ -110,8 +108,7 @@ def connects(entering, number):
 
 def test_a_key_is_a_desk(room):
     """a key speaks for no other desk, opens no shell, forwards no port, and a dead connection lets go"""
-    other, first = room.script("zhcount-desk", "4", str(room.folder)), []
-    _, out, error = room.ran_by_ssh(3, *map(str, other), text="return 1 1 1 525\n4 return 1 1 2 5\n")
+    _, out, error = room.ran_by_ssh(3, *room.script("zhcount-desk", 4, room.folder), text="return 1 1 1 525\n4 return 1 1 2 5\n")
     assert out == "stored 1\nrefused syntax\n", f"the answers to desk 3: {error}"
     for command in ("echo hello", "sh"):
         assert room.ran_by_ssh(3, command)[1] == "shows 1 525\n", f"no shell by {command}"
@@ -122,6 +119,7 @@ def test_a_key_is_a_desk(room):
         status, out, error = room.ran_by_ssh(3, *options)
         assert status == 255 and re.search("prohibited|remote port forwarding failed", error), f"no port by {options}: {out} {error}"
     assert room.ran_by_ssh(9)[0] == 255, "another key"
+    first = []
 
     def is_refused():
         """Whether a second connection is refused beside the first; after a while it takes the place of that."""

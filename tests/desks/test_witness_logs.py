@@ -28,8 +28,6 @@ def test_another_log(new_room, when, is_longer):
         room.away.touch()
     room.start()
     desk = room.desk(1).talk("return 1 1 1 525 -> stored 1")
-    if when != "in the night":
-        room.has_all()
     if when == "at a start":
         room.stop()
     else:
@@ -145,14 +143,10 @@ def spoken(room, *messages, folder=None):
     return witness
 
 
-def listed(*found):
-    return {"events": json.dumps(found), "more": False}
-
-
-def in_two(*found):
-    """The same in two messages."""
+def listed(*found, size=10**7):
+    """Messages with these events, each with so many characters of them."""
     text = json.dumps(found)
-    return [{"events": text[:40], "more": True}, {"events": text[40:], "more": False}]
+    return [{"events": text[it:it + size], "more": it + size < len(text)} for it in range(0, len(text), size)]
 
 
 def test_refused_folder(new_room):
@@ -170,25 +164,25 @@ def test_what_follows(new_room):
     """events that follow are taken, all of a message or none; others, and what is no message, are refused by a text"""
     log = Written(new_room.copy)
     first, second, third = (log.add("setup", "x"), log.add("start", json.dumps({"commands": 0})), log.add("line", "show 1 1", 1, 1))
-    taken = spoken(new_room, listed(first), listed())
+    taken = spoken(new_room, *listed(first), *listed())
     assert (taken.status, [json.loads(it)["number"] for it in taken.out]) == (0, [0, 1, 1]), f"what it said: {taken.said()}"
     changed = second._replace(text="y")
-    for messages, said in [*(([listed(it)], "does not follow") for it in (changed, third, first)),
-                           ([listed(second, changed)], "does not follow"), (in_two(second, changed), "does not follow"),
+    for messages, said in [*((listed(it), "does not follow") for it in (changed, third, first)),
+                           *((listed(second, changed, size=it), "does not follow") for it in (40, 10**7)),
                            (["x"], "no message"), (["[]"], "no message"), (["[" * 10000], "no message"), (["{}"], NO_FORM),
                            *(([{"events": it, "more": False}], NO_FORM) for it in ("x", 5, "[[1, 2]]", "[5]"))]:
         refused = spoken(new_room, *messages)
         assert refused.status == 1, f"the status after {messages}: {refused.said()}"
         assert said in refused.said() and refused.said().count("\n") == 0, f"it says so, {messages}: {refused.said()}"
         assert events(new_room.copy) == [first], "what it has"
-    taken = spoken(new_room, *in_two(second, third))
+    taken = spoken(new_room, *listed(second, third, size=40))
     assert (taken.status, events(new_room.copy)) == (0, [first, second, third]), f"what it has: {taken.said()}"
 
 
 def test_checkpoints(new_room):
     """what a witness has taken is not brought into night.db by SQLite itself, which says nothing of errors, however much it is"""
     witness = new_room.process(Process, new_room.script("zhcount-witness", new_room.copy))
-    much = listed(Written(new_room.copy).add("setup", "x" * 4_150_000))
+    much, = listed(Written(new_room.copy).add("setup", "x" * 4_150_000))
     witness.write(f"{json.dumps(GREETING)}\n{json.dumps(much)}\n")
     until("it is taken", lambda: len(witness.out) == 2)
     assert (new_room.copy / "night.db").stat().st_size < 1 << 20, "night.db has none of it"
