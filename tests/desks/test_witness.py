@@ -82,11 +82,14 @@ def test_waits_for_it():
 
 @pytest.mark.xdist_group("times")
 def test_slow_witness(new_room):
-    """where each message takes three seconds on its way the first answer waits for a bounded time, counted once, and then the witness
-    counts as away, which log, folder and desks say, also once it has all, as long as it is slow"""
-    room = new_room.measures("PATIENCE", "QUICK")
-    room.is_slow(0)
+    """a start waits for a witness that takes seconds for it. Where each message takes three seconds on its way the first answer waits for a
+    bounded time, counted once, and then the witness counts as away, which log, folder and desks say, also once it has all, as long as it
+    is slow"""
+    room = new_room.measures("PATIENCE", "QUICK", "MEETING")
+    room.is_slow(1)
     room.start()
+    assert "no witness" not in room.office.said(), f"it was there first: {room.office.said()}"
+    room.is_slow(0)
     desks = [room.desk(number).talk("show 3 3 -> none") for number in range(1, 9)]
     room.has_all()
     room.is_slow(3)
