@@ -21,9 +21,10 @@ ROOM = QuickRoom
 
 @pytest.mark.xdist_group("times")
 def test_every_ten_seconds():
-    """a command that comes soon after a copy is seen ten seconds after that copy, though no other line comes"""
+    """a command that comes soon after a copy is shown ten seconds after it, without another line"""
     with Room() as room:
-        times, child = room.path / "times", '["ln", "-sfn", os.path.basename(path), os.path.join(self.log.path, "now")]'
+        times = room.path / "times"
+        child = '["ln", "-sfn", os.path.basename(path), os.path.join(self.log.path, "now")]'
         room.edit_script("zhcount_now.py", r"^( *)self\.at = (?=time\.m).*", rf"\g<0>\n\1print(self.at, file=open({str(times)!r}, 'a'))")
         room.edit_script("zhcount_now.py", r"^( *)words = .*", rf"\1words = {child}")  # a child that takes no time
         desk = room.desk(1)
@@ -37,7 +38,7 @@ def test_every_ten_seconds():
 
 
 def test_lines_meanwhile():
-    """what comes while the child works is in none of its files, however long it takes to begin; it leaves the processor to others"""
+    """what comes before the child reads, or later, is in none of its files; it leaves the processor to others"""
     with QuickRoom(every=NEVER, priority=19) as room:
         room.held.touch()
         waits = f"    while os.path.exists({str(room.held)!r}):\n        time.sleep(0.02)\n"
@@ -45,8 +46,9 @@ def test_lines_meanwhile():
         room.start()
         until("its priority", lambda: os.getpriority(os.PRIO_PROCESS, room.working()) == 19)
         os.setpriority(os.PRIO_PROCESS, room.working(), 0)
-        lines = [f"return 1 1 {number} 525" for number in range(1, 201)]  # more than the office writes at once
-        assert room.ask(1, *lines).out == [f"stored {number}" for number in range(1, 201)], "the answers meanwhile"
+        numbers = range(1, 201)  # more lines than the office writes at once
+        shown = room.ask(1, *(f"return 1 1 {it} 525" for it in numbers)).out
+        assert shown == [f"stored {it}" for it in numbers], "the answers meanwhile"
         assert names_of_now(room) == ["now-0"], "`now` is not there before all is"
         room.goes_on()
         compare(room, [], shown=0)
@@ -58,7 +60,7 @@ class QuickWitnessed(QuickRoom, Witnessed):
 
 
 def test_copies_between_lines():
-    """the disk is copied only where no line is in the air, and none waits for the witness: what no desk was shown yet is in no copy"""
+    """the disk is copied while no line is in the air, or waits for the witness: what no desk was shown is in no copy"""
     with QuickWitnessed() as room:
         room.options.append("--witness-required")
         room.start()
@@ -108,8 +110,8 @@ def test_failed_disk():
 
 
 def test_late_child():
-    """a child that is killed, or that takes too long, is said to be so, and another one does its work; what it has started ends too, and
-    desks are answered meanwhile"""
+    """of a child that is killed the log says so, and another one does its work; one that takes too long is killed, with what it has
+    started, and desks are answered meanwhile"""
     with QuickRoom() as room:
         late, is_said = room.is_patient(), "could not be renewed: its process was killed after "
         room.start_held()
@@ -144,8 +146,8 @@ def test_no_room(new_room):
 
 
 def test_ends_without_its_child():
-    """an office that is told to end waits for its child; told twice, or killed, it does not, and the child shows nothing; the next start
-    removes what is left"""
+    """an office that is told to end waits for its child; one that is told twice, or killed, does not. The child then shows nothing, and
+    the next start removes what it left"""
     with running(QuickRoom(every=NEVER)) as room:
         assert room.ask(1, RETURNS[0]).out == ["stored 1"]
         room.stop()
@@ -155,13 +157,14 @@ def test_ends_without_its_child():
             assert names_of_now(room) == ["now-1"], "an older `now` is gone"
             if is_told:
                 room.office.kill(signal.SIGTERM)
-                child = until("the last copy has a child", lambda it=child: room.child() != it and room.child())
+                child = until("the last child", lambda it=child: room.child() != it and room.child())
                 stays("it waits", lambda: not room.office.has_ended())
             room.office.kill(signal.SIGTERM if is_told else signal.SIGKILL)
             until("the office has ended", room.office.has_ended)
             room.goes_on()
             until("its child has ended", lambda it=child: not command_of(it))
-            assert (room.office.wait(), names_of_now(room)) == (0 if is_told else -signal.SIGKILL, ["now-1"]), "what is there"
+            assert room.office.wait() == (0 if is_told else -signal.SIGKILL)
+            assert names_of_now(room) == ["now-1"], "what is there"
             (room.folder / "now-7-7").mkdir()
             (room.folder / "now").symlink_to("now-7-7")
         room.start()
@@ -170,8 +173,7 @@ def test_ends_without_its_child():
 
 
 class InNow(Stop):
-    """A stop of the office, or of its child, or a fault, before the call of this number in `now`, once that is there, while it shows
-    another command; and then one more."""
+    """A stop or a fault of the office, or of its child, at the call of this number in `now`, while that shows another command."""
 
     def __init__(self, scripts, fault, number=0):
         super().__init__(number)
@@ -200,7 +202,7 @@ class InNow(Stop):
             self.is_over = True
             desk.write(f"{RETURNS[1]}\n")
             self.until("now-2 alone", lambda: link_of(room) == "now-2" and names_of_now(room) == ["now", "now-2"])
-            assert (room.folder / "now/held.csv").read_text() == "municipality,list,number,votes\n1,1,1,525\n1,2,1,300\n", "the rows"
+            assert (room.folder / "now/held.csv").read_text().split()[1:] == ["1,1,1,525", "1,2,1,300"]
         assert all(self.has_shown) or self.number and not self.fault, "it leads to something each time"
         return self
 
@@ -213,8 +215,8 @@ class InNow(Stop):
 
 @pytest.mark.parametrize("fault", [0, errno.ENOSPC], ids=["kill", "fault"])
 def test_stopped(new_room, fault):
-    """kill -9 of the office and of its child, or a fault, at each of their calls that make, change or remove something of `now`: that shows
-    all in the end, and nothing else; where nothing is stopped it leads to old files or to new ones, never to a folder that is gone"""
+    """kill -9, or a fault, at each call of the office and its child that makes, changes or removes something of `now`: all is shown in the
+    end, and nothing else. Where nothing is stopped it always leads to a folder that is there"""
     calls = InNow(new_room.scripts, fault).run().calls
     assert calls > 15, f"calls: {calls}"
     with concurrent.futures.ThreadPoolExecutor(5) as pool:

@@ -1,7 +1,6 @@
-"""Eight desks over a real sshd, each with a key of its own, some 500 lines each side by side: two connections are cut in the middle of a
-line, and the office is killed twice. Then what a key can't do. Then a witness that is reached by ssh: the office's machine is lost at 50
-moments, with eight desks that are not reached so, as 400 connections would take minutes; and the network hangs. LINES takes another number
-of lines, LOSSES of losses."""
+"""Eight desks over a real sshd, each with a key of its own, some 500 lines each side by side. Then what a key can't do. Then a witness
+that is reached by ssh: the office's machine is lost at 50 moments, with eight desks that stand beside it, as 400 connections would take
+minutes; and the network hangs. LINES takes another number of lines, LOSSES of losses."""
 import concurrent.futures
 import contextlib
 import getpass
@@ -34,8 +33,8 @@ ClientAliveCountMax 3
 
 
 class SshRoom(Room):
-    """A room with keys, each of which can do one thing: those of the desks, by their numbers, and 9, which nobody knows. Each connection
-    has an sshd of its own, as inetd would start it."""
+    """A room with keys, each for one thing: for desks, by their numbers, and 9, which nobody knows. Each connection has an sshd of its own,
+    as inetd would start it."""
 
     def __init__(self):
         super().__init__()
@@ -108,16 +107,17 @@ def connects(entering, number):
 
 def test_a_key_is_a_desk(room):
     """a key speaks for no other desk, opens no shell, forwards no port, and a dead connection lets go"""
-    _, out, error = room.ran_by_ssh(3, *room.script("zhcount-desk", 4, room.folder), text="return 1 1 1 525\n4 return 1 1 2 5\n")
+    other = room.script("zhcount-desk", 4, room.folder)
+    _, out, error = room.ran_by_ssh(3, *other, text="return 1 1 1 525\n4 return 1 1 2 5\n")
     assert out == "stored 1\nrefused syntax\n", f"the answers to desk 3: {error}"
     for command in ("echo hello", "sh"):
         assert room.ran_by_ssh(3, command)[1] == "shows 1 525\n", f"no shell by {command}"
     assert room.ran_by_ssh(3, "-s", "sftp")[0], "no other service"
     _, out, error = room.ran_by_ssh(3, "-tt", text="echo $((6 * 7))\n")
-    assert "42" not in out and "PTY allocation request failed" in error, f"no terminal: {out} {error}"
+    assert "42" not in out and "PTY allocation request failed" in error, "no terminal"
     for options in (["-W", "127.0.0.1:9"], ["-N", "-o", "ExitOnForwardFailure=yes", "-R", "0:127.0.0.1:9"]):
         status, out, error = room.ran_by_ssh(3, *options)
-        assert status == 255 and re.search("prohibited|remote port forwarding failed", error), f"no port by {options}: {out} {error}"
+        assert status == 255 and re.search("prohibited|remote port forwarding failed", error), f"no port by {options}"
     assert room.ran_by_ssh(9)[0] == 255, "another key"
     first = []
 
@@ -151,7 +151,8 @@ def reading(room):
     for it in pathlib.Path("/proc").glob("[0-9]*"):
         with contextlib.suppress(OSError):
             is_desk = (it / "cmdline").read_bytes().endswith(b"%s\0--csv\0-\0" % os.fsencode(room.folder))
-            if is_desk and re.match(r"0 0x0 \S+ 0x[0-9a-f]{1,5} ", (it / "syscall").read_text()):  # it asked for 1 MB at first
+            # It asks for 1 MB at first, and then for less.
+            if is_desk and re.match(r"0 0x0 \S+ 0x[0-9a-f]{1,5} ", (it / "syscall").read_text()):
                 return it
     return None
 
@@ -164,8 +165,7 @@ def reaching(room, other, name="witness"):
 
 
 def test_machine_is_lost(new_room):
-    """whatever eight desks were shown holds in the folder of a witness by ssh, whenever the office's machine was lost; the night goes on
-    there"""
+    """whatever desks were shown holds at a witness by ssh, whenever the office's machine was lost; the night goes on there"""
     def night(seed):
         with running(reaching(Witnessed("--witness-required", on_device=True), new_room, f"witness{seed}")) as room:
             entering = Entering(room, seed)
@@ -181,8 +181,8 @@ def test_machine_is_lost(new_room):
 
 @pytest.mark.xdist_group("times")
 def test_network_hangs(new_room):
-    """where the way to the witness hangs the answer is shown after five seconds, and that there is none, and the next answers at once; a
-    new connection has the folder once the witness before it has heard nothing for a while"""
+    """where the way to the witness hangs the answer is shown after five seconds, and that there is none, and the next ones at once; a new
+    connection has the folder once the witness before it has heard nothing for a while"""
     with running(reaching(Witnessed().measures("PATIENCE", "SILENCE"), new_room)) as room:
         desk, is_there = room.desk(1).talk("return 1 1 1 525 -> stored 1"), "the witness has been connected since"
         until("it is there", lambda: room.said_of_it().startswith(is_there))
@@ -198,7 +198,7 @@ def test_network_hangs(new_room):
             assert 4 < took < 40 and "it takes too long" in said, f"after some five seconds: {took}, {said}"
             desk.says("no witness since")
             desk.talk(*(f"return 1 1 {number} 530 -> stored {number}" for number in range(3, 13)))
-            assert time.monotonic() - begun < 40, f"at once: {time.monotonic() - begun}"  # ten times five seconds would be more
+            assert time.monotonic() - begun < 40, "at once"  # ten times five seconds would be more
             room.office.says("it has said nothing for 10 seconds")
             until("it is there again", lambda: room.office.said().count(is_there) > times)
         finally:

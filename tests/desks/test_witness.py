@@ -17,8 +17,8 @@ ROOM = Witnessed
 
 
 def test_goes_on_without(room):
-    """the witness has each event, and from it the disk can be made anew; one that has no room ends, and says why. Without it the office
-    goes on, and says so, to a new connection before it shows an answer; it then gets what it lacks. An end without it is noted"""
+    """the witness has each event, and the disk can be made anew from it. One without room ends, and says why. The office goes on, and says
+    so, to a new connection first; the next witness gets what it lacks. An end without one is noted"""
     is_there = "the witness has been connected since"
     desk = room.desk(1).talk("return 1 1 1 525 -> stored 1", "open -> held 0", "row 2 1 1 240 -> held 1")
     room.has_all()
@@ -41,7 +41,7 @@ def test_goes_on_without(room):
     room.lose_witness()
     until("it is away", lambda: room.said_of_it().startswith("no witness since"))
     assert room.stop() == 0
-    assert (room.events()[-1].kind, room.events()[-1].facts()["reason"]) == ("ended", "told to"), "the last event"
+    assert room.events()[-1].facts()["reason"] == "told to", "the last event"
     room.away.unlink()
     room.start()
     room.check()
@@ -52,8 +52,8 @@ def test_goes_on_without(room):
 
 
 def test_waits_for_it():
-    """where the witness is required no answer is shown while it is silent or away, which is said, and what it has is shown; at an end to
-    nobody, and its desk is told by the next start, of which no desk sees anything before the witness has that too"""
+    """where the witness is required, and silent or away, no answer is shown, also at an end, and that is said. The next start shows it, and
+    nothing before the witness has that start too"""
     with running(Witnessed("--witness-required").measures("PATIENCE", seconds=20)) as room:
         desk, waiting = room.desk(1).talk("return 1 1 1 525 -> stored 1"), "waiting for the witness since"
         room.signal(signal.SIGSTOP)
@@ -82,9 +82,8 @@ def test_waits_for_it():
 
 @pytest.mark.xdist_group("times")
 def test_slow_witness(new_room):
-    """a start waits for a witness that takes seconds for it. Where each message takes three seconds on its way the first answer waits for a
-    bounded time, counted once, and then the witness counts as away, which log, folder and desks say, also once it has all, as long as it
-    is slow"""
+    """a start waits for a witness that takes seconds. Where each message takes three seconds on its way the first answer waits for a
+    bounded time; then the witness is away, as log, folder and desks say, also once it has all, as long as it is slow"""
     room = new_room.measures("PATIENCE", "QUICK", "MEETING")
     room.is_slow(1)
     room.start()
@@ -99,7 +98,7 @@ def test_slow_witness(new_room):
             desk.write(f"show {municipality} 1\n")
         for desk in desks:
             assert desk.answer() == "none", f"the answer about {municipality}"
-    assert time.monotonic() - begun < 60, f"in all some five seconds: {time.monotonic() - begun}"  # 24 times five would be more
+    assert time.monotonic() - begun < 60, "some five seconds in all"  # 24 times five would be more
     for it in (room.office, *desks):
         it.says("no witness since")
     room.has_all()
@@ -117,7 +116,7 @@ def test_slow_witness(new_room):
     ("echo '[1]'", "what came is no message"), ("echo Welcome", "what came is no message"),
 ])
 def test_no_such_command(new_room, words, why):
-    """where the command can't be started, or says something else, the office goes on, and says why; one without words is refused"""
+    """where the command can't be started, or says something else, the office goes on, and says why; no words are refused"""
     new_room.options = ["--witness", words]
     new_room.start().says("no witness since", why)
     assert new_room.ask(1, "return 1 1 1 525").out == ["stored 1"]
@@ -127,7 +126,7 @@ def test_no_such_command(new_room, words, why):
 
 
 def test_either_is_lost():
-    """the witness's machine is lost among lines of eight desks, and comes back with nothing, and then the office's is lost"""
+    """the witness's machine is lost among lines of eight desks, and comes back empty; then the office's is lost"""
     with running(Witnessed(on_device=True)) as room:
         entering = Entering(room, 1)
         entering.enter(200)
@@ -138,7 +137,7 @@ def test_either_is_lost():
         entering.until_shown(250)
         room.office.says("no witness since")
         room.away.unlink()
-        until("the log says that it is there", lambda: room.office.said().count("the witness has been connected since") == 2)
+        until("it is there", lambda: room.office.said().count("the witness has been connected since") == 2)
         entering.enter(200)
         entering.until_shown(450)
         entering.lose_office()

@@ -1,5 +1,5 @@
-"""Tests of the log of a witness: which one an office takes for its own, what of it is on the device when that is said, and in which pieces
-it comes; and what zhcount-witness takes, and from whom: the folder, who has it, and messages of any kind."""
+"""Tests of the log of a witness: which one an office takes for its own, when it is on the device, and in which pieces it comes; and what
+zhcount-witness takes: the folder, who has it, and messages of any kind."""
 import json
 import os
 import re
@@ -21,8 +21,8 @@ GREETING, NO_FORM = {"number": 0, "sum": ""}, "what came is not what an office s
 @pytest.mark.parametrize("is_longer", [False, True], ids=["another", "longer"])
 @pytest.mark.parametrize("when", ["at a start", "in the night", "back again"])
 def test_another_log(new_room, when, is_longer):
-    """a witness that has another log, as that of the drills, or more of the same, as where the folder is an older copy, is status 3 at a
-    start, with the sentence what to do; one that comes in the night, or comes back, is none, and the office goes on. No log changes"""
+    """a witness with another log, as that of the drills, or with more of the same, as beside an older copy of the folder, is status 3 at
+    a start, with what to do; one that comes in the night, or comes back, is none. No log changes"""
     room = new_room
     if when == "in the night":
         room.away.touch()
@@ -54,7 +54,7 @@ def test_another_log(new_room, when, is_longer):
     assert events(room.copy) == log.events, "the witness's log"
     if is_longer:
         room.moves()
-        assert room.zhcount("export") == "municipality,list,number,votes\n1,1,2,530\n", "what the disk made of it holds"
+        assert room.zhcount("export").split()[1:] == ["1,1,2,530"], "what the disk made of it holds"
 
 
 def test_nothing_is_shown_that_it_has_not_written():
@@ -82,8 +82,8 @@ def test_nothing_is_shown_that_it_has_not_written():
 
 @pytest.mark.xdist_group("times")
 def test_much():
-    """a start waits for a witness that lacks much, which gets it in messages of at most 64 KB, and is there for as long as it takes in one
-    message after the other, however long all of it takes"""
+    """a start waits for a witness that lacks much, which gets it in messages of at most 64 KB, and is there as long as it takes in one
+    after the other"""
     for _ in range(3):  # on a busy machine one message alone may take longer than a witness may be silent
         with Witnessed().measures("SILENCE", "PATIENCE") as room:
             came, room.options = room.path / "came", []
@@ -98,7 +98,7 @@ def test_much():
         if not any("no witness" in it for it in said):
             break
     assert not any("no witness" in it for it in said), f"it is there: {said}"
-    assert "the witness has been connected since" in said[0] and "desks can send lines" in said[-1], f"it was there first: {said}"
+    assert "the witness has been connected" in said[0], f"it was there first: {said}"
     assert sum(sizes) > 300_000 and 20_000 < max(sizes) <= 65536, f"messages: {sizes}"
 
 
@@ -106,9 +106,9 @@ def test_much():
 
 
 def test_waits_for_the_one_before(new_room):
-    """a folder that another witness has is waited for by a witness and by an office, which say for whom; one that hears nothing for 20
-    seconds ends"""
-    first, is_left = new_room.process(Process, new_room.script("zhcount-witness", new_room.copy)), threading.Event()
+    """a witness and an office wait for the witness that has their folder, and say so; one that hears nothing for 20 seconds ends"""
+    first = new_room.process(Process, new_room.script("zhcount-witness", new_room.copy))
+    is_left = threading.Event()
     first.write(f"{json.dumps(GREETING)}\n")
     until("it is ready", lambda: first.out)
 
@@ -125,7 +125,7 @@ def test_waits_for_the_one_before(new_room):
     speaking.join()
     new_room.await_start()
     first.ends_with(1, "the first")
-    assert first.said() == f"zhcount-witness: {new_room.copy}: nothing has come for 20 seconds", "what it says"
+    assert first.said() == f"zhcount-witness: {new_room.copy}: nothing has come for 20 seconds"
     new_room.office.says("the witness has been connected since")
     assert new_room.ask(1, "return 1 1 1 525").out == ["stored 1"]
     new_room.has_all()
@@ -163,9 +163,9 @@ def test_refused_folder(new_room):
 def test_what_follows(new_room):
     """events that follow are taken, all of a message or none; others, and what is no message, are refused by a text"""
     log = Written(new_room.copy)
-    first, second, third = (log.add("setup", "x"), log.add("start", json.dumps({"commands": 0})), log.add("line", "show 1 1", 1, 1))
+    first, second, third = log.add("setup", "x"), log.add("start", "{}"), log.add("line", "show 1 1", 1, 1)
     taken = spoken(new_room, *listed(first), *listed())
-    assert (taken.status, [json.loads(it)["number"] for it in taken.out]) == (0, [0, 1, 1]), f"what it said: {taken.said()}"
+    assert (taken.status, [json.loads(it)["number"] for it in taken.out]) == (0, [0, 1, 1]), taken.said()
     changed = second._replace(text="y")
     for messages, said in [*((listed(it), "does not follow") for it in (changed, third, first)),
                            *((listed(second, changed, size=it), "does not follow") for it in (40, 10**7)),
@@ -176,11 +176,11 @@ def test_what_follows(new_room):
         assert said in refused.said() and refused.said().count("\n") == 0, f"it says so, {messages}: {refused.said()}"
         assert events(new_room.copy) == [first], "what it has"
     taken = spoken(new_room, *listed(second, third, size=40))
-    assert (taken.status, events(new_room.copy)) == (0, [first, second, third]), f"what it has: {taken.said()}"
+    assert (taken.status, events(new_room.copy)) == (0, [first, second, third]), taken.said()
 
 
 def test_checkpoints(new_room):
-    """what a witness has taken is not brought into night.db by SQLite itself, which says nothing of errors, however much it is"""
+    """what a witness takes, however much, is not brought into night.db by SQLite, which says nothing of errors"""
     witness = new_room.process(Process, new_room.script("zhcount-witness", new_room.copy))
     much, = listed(Written(new_room.copy).add("setup", "x" * 4_150_000))
     witness.write(f"{json.dumps(GREETING)}\n{json.dumps(much)}\n")

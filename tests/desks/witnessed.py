@@ -26,7 +26,7 @@ slowly | witness | {{ slowly; kill $$; }}
 
 
 class Witnessed(Room):
-    """A room whose office has a witness, in a folder of its own; where that is wanted, on a device, whose syncs cost something."""
+    """A room whose office has a witness, in another folder; perhaps on a device, whose syncs cost something."""
     is_quiet = True  # whether the office makes no copies for `now`
 
     def __init__(self, *options, on_device=False, **more):
@@ -44,7 +44,7 @@ class Witnessed(Room):
         shutil.rmtree(self.other, ignore_errors=True)
 
     def measures(self, *times, seconds=60):
-        """Has these times of an office with a witness as they are, and the others as long as a busy machine may need."""
+        """Leaves these times of the office as they are; the others are as long as a busy machine may need."""
         self.scripts = patient_scripts(quiet_scripts() if self.is_quiet else SCRIPTS, *times, seconds=seconds)
         return self
 
@@ -88,7 +88,7 @@ class Witnessed(Room):
         said = super().check(sent)
         own, there = events(self.folder), events(self.copy)
         assert there == own[:len(there)], "what the witness has"
-        assert there == own or not self.said_of_it().startswith("the witness has been connected"), f"it has all: {self.said_of_it()}"
+        assert there == own or "the witness has been connected" not in self.said_of_it(), "it has all"
         return said
 
 
@@ -101,7 +101,7 @@ class Entering:
         self.lines = {number: [] for number in self.desks}
 
     def enter(self, size):
-        """Types some of so many lines, which mostly make sense one after the other: not those whose answer has many lines."""
+        """Types so many lines, which mostly make sense one after the other, but for some whose answer is long."""
         for _ in range(size):
             number, line = self.chance.randint(1, 8), random_line(self.chance, self.count)
             if line not in ("sheet", "final"):
@@ -117,8 +117,8 @@ class Entering:
         until(lambda: f"{count} answers, but {self.shown()}: {self.room.office.said()}", lambda: self.shown() >= count)
 
     def lose_office(self):
-        """The office's machine burns, with all that it has but the witness, if that stands beside, and the night goes on at the witness's:
-        what desks were shown holds there, and there they go on. How many answers they were shown."""
+        """The office's machine burns, with all that is not the witness's, and the night goes on at the other one: what desks were shown
+        holds there. How many answers that were."""
         room, office, witness = self.room, self.room.office, self.room.witness()
         for it in [office.process.pid, *room.children_of(office)]:
             with contextlib.suppress(ProcessLookupError):
@@ -134,7 +134,7 @@ class Entering:
         room.start()
         for number, desk in self.desks.items():
             lines, noted = self.lines[number], room.of_desk(number)
-            assert noted[:len(desk.out)] == list(zip(lines, desk.out)), f"what desk {number} was shown is noted"
+            assert noted[:len(desk.out)] == list(zip(lines, desk.out)), f"what desk {number} was shown"
             if lines[len(noted):]:
                 room.ask(number, *lines[len(noted):])
         room.check(self.lines)
