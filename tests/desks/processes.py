@@ -1,14 +1,12 @@
 """What the tests of the scripts say and wait for, and the processes that they start. PATIENCE says how many seconds a test waits for what
 has to happen; IN_VAIN what does not happen, by a mistake: for that it waits shortly."""
-import array
 import contextlib
-import fcntl
 import os
 import pathlib
 import re
+import select
 import signal
 import subprocess
-import termios
 import threading
 import time
 
@@ -44,12 +42,10 @@ def stand_still(pid):
     until("it stands still", lambda: "State:\tT" in pathlib.Path(f"/proc/{pid}/status").read_text())
 
 
-def unread_by(pid):
-    """How many bytes a process has at its standard input, a pipe, that it has not read."""
-    found = array.array("i", [0])
+def has_input(pid):
+    """Whether a process has something at its standard input, a pipe, that it has not read."""
     with open(os.open(f"/proc/{pid}/fd/0", os.O_RDONLY | os.O_NONBLOCK), "rb") as pipe:
-        fcntl.ioctl(pipe, termios.FIONREAD, found)
-    return found[0]
+        return select.select([pipe], [], [], 0)[0] != []
 
 
 class Process:
@@ -83,7 +79,10 @@ class Process:
             until(lambda: f"'{text}' is said: {self.said()}", lambda: text in self.said())
 
     def kill(self, number=signal.SIGKILL):
+        """Sends it a signal; by this one it has ended then."""
         self.process.send_signal(number)
+        if number == signal.SIGKILL:
+            self.process.wait()
 
     def has_ended(self):
         return self.process.poll() is not None

@@ -3,11 +3,10 @@ scripts that have more patience with a witness."""
 import functools
 import pathlib
 import py_compile
-import re
 import shutil
 import tempfile
 
-from room import SCRIPTS, Room
+from room import SCRIPTS, Room, edit
 
 MADE = []  # folders that go with the tests
 TIMES = ("SILENCE", "PATIENCE", "QUICK", "MEETING")  # of an office with a witness
@@ -18,9 +17,7 @@ def edited(scripts, name, *edits):
     MADE.append(tempfile.TemporaryDirectory(prefix="scripts-"))
     path = shutil.copytree(scripts, pathlib.Path(MADE[-1].name, "desks")) / name
     for pattern, new in edits:
-        text, times = re.subn(pattern, new, path.read_text(), flags=re.MULTILINE)
-        assert times == 1, f"places with {pattern} in {name}"
-        path.write_text(text)
+        edit(path, pattern, new)
     py_compile.compile(str(path), doraise=True)
     return path.parent
 

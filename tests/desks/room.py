@@ -1,14 +1,12 @@
 """A room for an office and its desks: a folder with a set-up and a disk, the processes in it, and what its log has to say. DESKS names
 another folder of the scripts."""
 import contextlib
-import functools
+import itertools
 import os
 import pathlib
 import re
 import shutil
 import signal
-import socket
-import stat
 import subprocess
 import sys
 import tempfile
@@ -16,13 +14,9 @@ import tempfile
 from counting import counted
 from logs import events
 from places import PROGRAM, REHEARSAL, TOP
-from processes import HAS_ENDED, SECONDS, Desk, Process, stand_still, stays, unread_by, until
+from processes import SECONDS, Desk, Process, has_input, stand_still, until
 
-__all__ = ["HAS_ENDED", "MODES", "SCRIPTS", "SECONDS", "Desk", "Process", "Room", "let_in", "running", "stand_still", "stays",
-           "until"]
 SCRIPTS = pathlib.Path(os.environ.get("DESKS", TOP / "desks"))
-FORMATTED = []  # folders that go with the tests
-MODES = {"night.db": "-rw-------", "night.db-wal": "-rw-------", "desk": "srw-rw----"}
 
 
 class Room:
@@ -33,9 +27,8 @@ class Room:
         self.scripts, self.environment = SCRIPTS, {"ZHCOUNT": str(PROGRAM)}
         self.setup, self.disk, self.folder = self.path / "setup.toml", self.path / "night.disk", self.path / "office"
         self.setup.write_text(setup)
-        shutil.copyfile(formatted(setup), self.disk)
-        self.disk.chmod(0o600)
         self.processes, self.office, self.options = [], None, []
+        self.zhcount("format")
 
     @staticmethod
     def shared():
@@ -49,7 +42,6 @@ class Room:
         for it in self.processes:
             it.kill(signal.SIGCONT)
             it.kill()
-            it.process.wait()
         shutil.rmtree(self.path, ignore_errors=True)
 
     # The program and the scripts
@@ -66,12 +58,10 @@ class Room:
         return [sys.executable, "-S", self.scripts / name, *words]  # no packages are looked for
 
     def edit_script(self, name, pattern, text):
-        """Changes the one place of a script where this regular expression matches, from now on in a copy of the scripts."""
+        """Edits a script, from now on in a copy of all."""
         if self.scripts != self.path / "scripts":
             self.scripts = shutil.copytree(self.scripts, self.path / "scripts")
-        edited, times = re.subn(pattern, text, (self.scripts / name).read_text(), flags=re.MULTILINE)
-        assert times == 1, f"places with {pattern} in {name}"
-        (self.scripts / name).write_text(edited)
+        edit(self.scripts / name, pattern, text)
 
     def stands_in(self, task):
         """Has a stand-in for the program do this first, in bash."""
@@ -88,8 +78,8 @@ class Room:
         """A disk of the same set-up with these lines, and its path."""
         path = self.path / "other.disk"
         path.unlink(missing_ok=True)
-        for task, given in (("format", ""), ("run", "".join(f"1 {it}\n" for it in lines))):
-            assert self.ran(task, disk=path, given=given).returncode == 0, task
+        self.zhcount("format", disk=path)
+        self.by_hand(*lines, disk=path)
         return path
 
     def load(self, *rows):
@@ -100,9 +90,10 @@ class Room:
         assert found.returncode == 0, f"the loading of {rows}, which says {found.stderr}"
         return found.stdout
 
-    def by_hand(self, *lines):
+    def by_hand(self, *lines, disk=None):
         """Types lines into `run` by hand."""
-        return self.zhcount("run", given="".join(f"1 {it}\n" for it in lines))
+        ran = self.ran("run", disk=disk, given="".join(f"1 {it}\n" for it in lines))
+        assert ran.returncode == 0, f"a run by hand, which says {ran.stderr}"
 
     # The office
 
@@ -111,9 +102,10 @@ class Room:
         self.processes.append(process)
         return process
 
-    def start(self, *options, is_awaited=True):
+    def start(self, *options, below=(), is_awaited=True):
+        """Starts the office, below another program if that is given."""
         words = self.script("zhcount-office", *self.options, *options, self.setup, self.disk, self.folder)
-        self.office = self.process(Process, words)
+        self.office = self.process(Process, [*below, *words])
         if is_awaited:
             self.await_start()
             assert self.serves(), f"the office starts: {self.office.said()}"
@@ -121,13 +113,6 @@ class Room:
 
     def serves(self):
         return "desks can send lines" in self.office.said()
-
-    def listens(self):
-        """Whether somebody is let in at the socket: the last thing that a start does before it says so."""
-        with socket.socket(socket.AF_UNIX) as at, contextlib.suppress(OSError):
-            at.connect(str(self.folder / "desk"))
-            return True
-        return False
 
     def await_start(self):
         """Waits until the office serves, or has ended."""
@@ -153,6 +138,7 @@ class Room:
         """The office ends of itself, with this status, and has said this."""
         self.office.ends_with(status, "the office")
         self.office.says(*texts)
+        assert "Traceback" not in self.office.said(), f"no traceback: {self.office.said()}"
 
     @staticmethod
     def children_of(process):
@@ -192,13 +178,13 @@ class Room:
 
     # Desks
 
-    def desk(self, number, *options):
-        return self.process(Desk, self.script("zhcount-desk", *options, str(number), self.folder))
+    def desk(self, number):
+        return self.process(Desk, self.script("zhcount-desk", str(number), self.folder))
 
-    def ask(self, number, *lines, end="\n"):
+    def ask(self, number, *lines):
         """What a desk shows that sends these lines, and what it says beside."""
         desk = self.desk(number)
-        desk.status = desk.end("\n".join(lines) + end)
+        desk.status = desk.end("".join(f"{it}\n" for it in lines))
         return desk
 
     def note(self, desk, line):
@@ -211,7 +197,7 @@ class Room:
         run_process = self.run_of_office()
         stand_still(run_process)
         self.note(desk, line)
-        until("it is given", lambda: unread_by(run_process))
+        until("it is given", lambda: has_input(run_process))
         return run_process
 
     def stops_at(self, desk, line, is_stored=False):
@@ -221,11 +207,6 @@ class Room:
         os.kill(run_process, signal.SIGCONT if is_stored else signal.SIGKILL)
         until("the run has ended", lambda: not os.path.exists(f"/proc/{run_process}"))
         return desk
-
-    def lost(self, desk, line, is_stored=False):
-        """Likewise; the desk is killed too."""
-        self.stops_at(desk, line, is_stored).kill()
-        desk.wait()
 
     # What there is
 
@@ -238,49 +219,28 @@ class Room:
 
     def of_desk(self, number):
         """The lines of a desk in the log, each with its answer; None of one that has none."""
-        found = {}
-        for it in self.events():
-            if it.desk == number and it.kind in ("line", "answer"):
-                found[it.turn] = (it.text, None) if it.kind == "line" else (found[it.turn][0], it.text)
-        return list(found.values())
-
-    def modes(self):
-        """Who may use the files of the folder; `now` and the sheets have tests of their own."""
-        return {it.name: stat.filemode(it.lstat().st_mode) for it in self.folder.iterdir() if not it.name.startswith(("now", "sheet"))}
+        texts = [it.text for it in self.events() if it.desk == number]
+        return list(itertools.zip_longest(texts[::2], texts[1::2]))
 
     def check(self, sent=()):
         """Ends the office, if it runs: each line has one answer, which is that of the manual, the disk has what follows from the lines, and
         a replay says the same."""
         if not self.office.has_ended():
             assert self.stop() == 0, f"the end of the office: {self.office.said()}"
-        count = self.compare(sent)
-        assert self.zhcount("export") == count.export(), "the export"
-        assert self.events()[-1].facts()["commands"] == count.commands, "the commands"
-        return self.replay()
-
-    def compare(self, sent):
-        """Looks whether each line in the log has one answer, which is that of the manual; and of these desks what they sent. The count."""
-        count = counted(self.events())
+        found = self.events()
+        count = counted(found)
         for number in sent:
             assert [text for text, _ in self.of_desk(number)] == sent[number], f"the lines of desk {number}"
-        return count
+        assert self.zhcount("export") == count.export(), "the export"
+        assert found[-1].facts()["commands"] == count.commands, "the commands"
+        return self.replay()
 
 
-@functools.lru_cache(maxsize=None)
-def formatted(setup):
-    """A new disk of this set-up, which rooms copy: its making is tested elsewhere."""
-    FORMATTED.append(tempfile.TemporaryDirectory(prefix="formatted-"))
-    place = pathlib.Path(FORMATTED[-1].name)
-    (place / "setup.toml").write_text(setup)
-    subprocess.run([PROGRAM, "format", "--setup", place / "setup.toml", "--disk", place / "disk"], check=True)
-    return place / "disk"
-
-
-def let_in(room, number):
-    """A desk that the office has let in."""
-    desk = room.desk(number)
-    until(lambda: f"desk {number} is let in: {desk.said()}", lambda: desk.is_let_in() or desk.has_ended())
-    return desk
+def edit(path, pattern, text):
+    """Changes the one place of a file where this regular expression matches."""
+    edited, times = re.subn(pattern, text, path.read_text(), flags=re.MULTILINE)
+    assert times == 1, f"places with {pattern} in {path.name}"
+    path.write_text(edited)
 
 
 @contextlib.contextmanager

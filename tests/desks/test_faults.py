@@ -1,211 +1,287 @@
-"""Tests of an office whose disk, folder or program is not as it should be: nothing is shown that does not hold, and a person is asked."""
+"""Tests of an office whose disk, set-up, program, folder or log is not as it should be: a start refuses it, later nothing is shown that
+does not hold, and a person is asked. And that what a start compares, or an end notes, is of one time."""
 import os
 import re
 import resource
 import shutil
-import subprocess
+import signal
+import sqlite3
 
 import pytest
 
+from logs import events
 from places import PROGRAM
-from room import Process, until
+from processes import Process, until
 
 FIRST, SECOND = "return 1 1 1 525", "return 1 2 1 300"
+UNLIMITED = resource.RLIM_INFINITY
 
 
-# The disk
+def answers(edit):
+    def change(room):
+        room.stop()
+        room.edits_answers(edit)
+        room.start()
+    return change
 
 
-@pytest.mark.parametrize("change", [
-    lambda room: (room.disk.rename(room.path / "own.disk"), room.other_disk(FIRST, SECOND).rename(room.disk)),
-    lambda room: room.disk.unlink(), lambda room: os.link(room.disk, room.path / "own.disk"),
-    lambda room: os.truncate(room.disk, 600_000), lambda room: os.truncate(room.disk, 2_000_000),
-], ids=["put in its place", "removed", "a second name", "cut short", "made longer"])
-def test_another_disk_while_it_runs(room, change):
-    """a disk that is put in another's place, is removed, has a second name or another length stops the office before anything is shown"""
-    desk = room.desk(1).talk(f"{FIRST} -> stored 1")
+def full_disk(room):
+    room.stop()
+    room.stands_in("[ $1 = run ] && trap '' XFSZ")
+    room.start()
+    resource.prlimit(room.run_of_office(), resource.RLIMIT_FSIZE, (1000, UNLIMITED))
+
+
+def full_log(room):
+    size = (room.folder / "night.db-wal").stat().st_size
+    resource.prlimit(room.office.process.pid, resource.RLIMIT_FSIZE, (size + 30, UNLIMITED))
+
+
+ANOTHER = "night.disk is no longer the file"
+FAULTS = {
+    "put in its place": (lambda room: os.replace(room.other_disk(FIRST, SECOND), room.disk), ANOTHER),
+    "removed": (lambda room: room.disk.unlink(), ANOTHER),
+    "a second name": (lambda room: os.link(room.disk, room.path / "second"), ANOTHER),
+    "cut short": (lambda room: os.truncate(room.disk, 600_000), ANOTHER),
+    "made longer": (lambda room: os.truncate(room.disk, 2_000_000), ANOTHER),
+    "folder put aside": (lambda room: room.folder.rename(room.path / "aside"), "night.db is no longer the file"),
+    "full": (full_disk, "the disk has failed: refused device. Copy it before anything else"),
+    "reopen-disk": (answers("s/stored 4/refused reopen-disk/"), "the disk has failed: refused reopen-disk"),
+    "a sheet without its end": (answers("/^constituency 2/Q"), "zhcount run has ended"),
+    "of another desk": (answers("s/^1 stored 4/2 stored 4/"), "zhcount answered desk 1 by '2 stored 4'"),
+    "full log": (full_log, "night.db could not be written"),
+}
+
+
+@pytest.mark.parametrize("name", FAULTS)
+def test_no_answer(room, name):
+    """a disk that is put in another's place, is removed, has a second name or another length or takes nothing more, a folder that is put
+    aside, and an answer that is none stop the office before anything is shown; the next start that is right answers the line. One that has
+    no room in the log is not given to the program"""
+    (change, text), is_sheet = FAULTS[name], "sheet" in name
+    line = "sheet" if is_sheet else SECOND
+    desk = room.desk(1).talk(f"{FIRST} -> stored 1", "return 2 1 1 90 -> stored 2", "return 3 1 1 90 -> stored 3")
+    shown, own = [*desk.out], shutil.copy(room.disk, room.path / "own.disk")
     change(room)
-    desk.write(f"{SECOND}\n")
-    room.ends(3, "is no longer the file", f"unanswered: desk 1: {SECOND}: the next start looks what became of it")
-    assert desk.out == ["stored 1"], "what the desk was shown"
+    desk.write(f"{line}\n")
+    room.ends(1 if is_sheet else 3, text)
     assert "every line is answered" not in room.office.said(), f"not said: {room.office.said()}"
+    assert desk.out == shown, "what the desk was shown"
+    if not room.folder.exists():
+        (room.path / "aside").rename(room.folder)
+    if change is full_log:
+        assert "1,2,1,300" not in room.zhcount("export"), "the program has not got it"
+    else:
+        room.office.says(f"unanswered: desk 1: {line}: the next start looks what became of it")
+        assert room.of_desk(1)[-1] == (line, None), "it stays open"
+    os.replace(own, room.disk)
+    room.environment["ZHCOUNT"] = str(PROGRAM)
+    room.start()
+    assert re.match("stored 4|1 sheet provisional 3\nhouse(.|\n)*\nend$", desk.answer(line)), "its answer"
+    room.check()
 
 
-@pytest.mark.parametrize("lines, put", [(["return 3 1 1 90"], os.replace), ([], shutil.copyfile)], ids=["in its place", "into the file"])
-def test_another_disk_at_the_end(room, lines, put):
-    """an office that is told to end looks at the disk, too: no other export is noted, and no 'every line is answered'"""
+@pytest.mark.parametrize("change, text", [
+    (lambda room: os.replace(room.other_disk("return 3 1 1 90"), room.disk), "night.disk is no longer the file"),
+    (lambda room: shutil.copyfile(room.other_disk(), room.disk), "the disk has 0 commands, and not all of the log's 1"),
+    (lambda room: resource.prlimit(room.office.process.pid, resource.RLIMIT_FSIZE, (1000, UNLIMITED)), "night.db could not be written"),
+], ids=["put in its place", "put into the file", "no room in the log"])
+def test_fault_at_the_end(room, change, text):
+    """an office that is told to end looks at the disk, too, and says where it can't note its end: no other export is noted, and not that
+    every line is answered"""
     assert room.ask(1, FIRST).out == ["stored 1"]
-    put(room.other_disk(*lines), room.disk)
-    assert room.stop() == 3, f"the status: {room.office.said()}"
+    own = shutil.copy(room.disk, room.path / "own.disk")
+    change(room)
+    room.office.kill(signal.SIGTERM)
+    room.ends(3, text)
     assert "every line is answered" not in room.office.said(), f"not said: {room.office.said()}"
     last = room.events()[-1]
     assert last.kind != "ended" or last.facts()["commands"] is None, f"nothing is noted of it: {last}"
-
-
-def test_disk_that_is_not_there(new_room):
-    """an office without a disk ends with 3, and says what the program says; it makes none"""
-    new_room.disk.unlink()
-    new_room.refuses("zhcount: disk device")
-    assert not new_room.disk.exists(), "none is made"
-    new_room.setup.unlink()
-    new_room.refuses("No such file or directory")
-
-
-def test_disk_is_busy(new_room):
-    """an office waits for a program that has the disk, and may be told to end meanwhile"""
-    holder = new_room.process(Process, [PROGRAM, "run", "--setup", new_room.setup, "--disk", new_room.disk])
-    holder.write(f"1 {FIRST}\n")
-    until("it has the disk", lambda: holder.out)
-    new_room.start(is_awaited=False).says("another program has the disk: waiting for its end")
-    assert new_room.stop() == 0, "told to end"
-    new_room.start(is_awaited=False).says("another program has the disk: waiting for its end")
-    holder.end()
-    new_room.ends(3, "has 1 command, but")
-
-
-def test_busy_disk_at_the_end(new_room):
-    """an office that is told to end needs no disk that another program has just then opened"""
-    flag = new_room.path / "flag"
-    is_asked = f"[ $1 != run ] && [ -e '{flag}' ] && [[ \"$*\" = *'{new_room.disk}'* ]]"
-    new_room.stands_in(f"{is_asked} && {{ echo 'zhcount: disk busy' >&2; exit 1; }}")
-    new_room.start()
-    assert new_room.ask(1, FIRST).out == ["stored 1"]
-    flag.touch()
-    assert new_room.stop() == 0, f"the status: {new_room.office.said()}"
-    new_room.office.says("every line is answered")
-    assert new_room.events()[-1].facts()["commands"] == 1, "what is noted"
-
-
-@pytest.mark.parametrize("edit, line, status, text", [
-    ("s/stored 4/refused device/", "return 1 1 2 530", 3, "the disk has failed: refused device. Copy it before anything else"),
-    ("s/stored 4/refused reopen-disk/", "return 1 1 2 530", 3, "the disk has failed: refused reopen-disk"),
-    ("/^constituency 2/Q", "sheet", 1, "zhcount run has ended"),
-    ("s/^1 stored 4/2 stored 4/", "return 1 1 2 530", 3, "zhcount answered desk 1 by '2 stored 4'"),
-], ids=["device", "reopen-disk", "a sheet without its end", "of another desk"])
-def test_no_answers(room, edit, line, status, text):
-    """device, reopen-disk, a sheet without its end and the answer of another desk are no answers: the line stays open, and the next
-    start gives it"""
-    desk = room.desk(1).talk(*(f"return {municipality} 1 1 90 -> stored {municipality}" for municipality in (1, 2, 3)))
-    room.stop()
-    room.edits_answers(edit)
+    os.replace(own, room.disk)
     room.start()
-    desk.write(line + "\n")
-    room.ends(status, text, f"unanswered: desk 1: {line}: the next start looks what became of it")
-    assert room.of_desk(1)[-1] == (line, None), "it stays open"
-    room.environment["ZHCOUNT"] = str(PROGRAM)
-    room.start()
-    assert re.match("stored 4|1 sheet provisional 3\nhouse(.|\n)*\nend$", desk.answer(line))
-    room.check()
-
-
-def test_device_while_rows_are_given_again(room):
-    """a disk that fails as the rows of a batch are given again ends the start with 3, and the batch stays"""
-    room.ask(1, "open", "row 1 1 1 525")
-    room.stop()
-    room.edits_answers("s/held 1/refused device/")
-    room.refuses("the disk has failed: refused device. Copy it before anything else")
-    room.environment["ZHCOUNT"] = str(PROGRAM)
-    room.start()
-    assert room.ask(1, "commit").out == ["stored 1"], "it stays"
-    room.check()
-
-
-# Faults
-
-
-@pytest.mark.parametrize("task, text", [
-    ("[ $1 = status ] && { printf 'a text\\n'; printf 'no sums\\n' >&2; exit; }", "night.disk can't be read"),
-    ("[ $1 = status ] && { printf '\\xff\\n'; exit; }", "night.disk can't be read"),
-    ("[ $1 = export ] && { printf 'a text\\nmore\\n'; exit; }", "night.disk can't be read"),
-    ("[ $1 = export ] && { printf '\\xff\\xfe\\n'; exit; }", "night.disk can't be read"),
-    ("[ $1 = status ] && { printf 'zhcount: disk damaged \\xff\\n' >&2; exit 1; }", "zhcount status"),
-], ids=["other sums", "bytes of status", "other rows", "bytes of export", "bytes of a reason"])
-def test_unexpected_text(new_room, task, text):
-    """an unexpected text of the program needs a person: status 3, and no traceback, since it would come again"""
-    new_room.stands_in(task)
-    new_room.refuses(text)
-    assert "Traceback" not in new_room.office.said(), f"no traceback: {new_room.office.said()}"
+    room.check({1: [FIRST]})
 
 
 def test_strange_path(new_room):
     """the path of a folder may be no UTF-8, and in a reason it has its place"""
-    strange = os.fsencode(new_room.path) + b"/\xff\xfe"
-    new_room.folder = os.fsdecode(strange)
-    words = [os.fsencode(it) for it in new_room.script("zhcount-office", new_room.setup, new_room.disk, new_room.folder)]
-    with subprocess.Popen(words, env={**os.environ, **new_room.environment}, stderr=subprocess.PIPE) as office:
-        try:
-            said = next((it for it in office.stderr if b"desks can send lines" in it), b"")
-            assert said, "it starts"
-            os.unlink(strange + b"/night.db")
-            office.terminate()
-            said = office.stderr.read()
-            assert office.wait() == 3, f"its status: {said}"
-        finally:
-            office.kill()
-    assert b"night.db" in said and b"Traceback" not in said, f"it says which: {said}"
-
-
-def test_full_volume(new_room):
-    """a line that has no room in the log is not given to the program; the office ends with 3, and starts as soon as there is some"""
-    office = new_room.start()
-    desk = new_room.desk(1).talk(f"{FIRST} -> stored 1")
-    limit = resource.prlimit(office.process.pid, resource.RLIMIT_FSIZE)
-    size = (new_room.folder / "night.db-wal").stat().st_size
-    resource.prlimit(office.process.pid, resource.RLIMIT_FSIZE, (size + 30, resource.RLIM_INFINITY))
-    desk.write(f"{SECOND}\n")
-    office.says("stopped: ", "night.db could not be written")
-    resource.prlimit(office.process.pid, resource.RLIMIT_FSIZE, limit)
-    new_room.ends(3)
-    assert "Traceback" not in office.said(), f"no traceback: {office.said()}"
-    assert new_room.zhcount("export") == "municipality,list,number,votes\n1,1,1,525\n", "the program has not got it"
+    new_room.folder = new_room.path / os.fsdecode(b"\xff\xfe")
     new_room.start()
-    assert desk.answer() == "stored 2", "the answer then"
-    new_room.check({1: [FIRST, SECOND]})
+    (new_room.folder / "night.db").unlink()
+    new_room.office.kill(signal.SIGTERM)
+    new_room.ends(3, "night.db")
 
 
-def test_full_volume_of_the_disk(new_room):
-    """a disk that takes nothing more ends the office with 3, and the line is answered once it takes something again"""
-    new_room.stands_in("[ $1 = run ] && trap '' XFSZ")
-    new_room.start()
-    desk = new_room.desk(1).talk(f"{FIRST} -> stored 1")
-    resource.prlimit(new_room.run_of_office(), resource.RLIMIT_FSIZE, (1000, resource.RLIM_INFINITY))
-    desk.write(f"{SECOND}\n")
-    new_room.ends(3, "the disk has failed: refused device. Copy it before anything else")
-    new_room.start()
-    assert desk.answer() == "stored 2"
-    new_room.check({1: [FIRST, SECOND]})
-
-
-def test_folder_fails_at_the_end(new_room):
-    """an office that can't note its end says so, with status 3 and without a traceback"""
-    office = new_room.start()
-    assert new_room.ask(1, FIRST).out == ["stored 1"]
-    resource.prlimit(office.process.pid, resource.RLIMIT_FSIZE, (1000, resource.RLIM_INFINITY))
-    assert new_room.stop() == 3, f"the status: {office.said()}"
-    assert "night.db could not be written" in office.said() and "Traceback" not in office.said(), f"it says why: {office.said()}"
-    new_room.start()
-    new_room.check({1: [FIRST]})
-
-
-def test_folder_is_put_aside(room):
-    """an office whose folder is put aside answers nobody: it ends with 3, and goes on where the folder is put back"""
-    desk = room.desk(1).talk(f"{FIRST} -> stored 1")
-    room.folder.rename(room.path / "aside")
-    desk.write(f"{SECOND}\n")
-    room.ends(3, "night.db is no longer the file")
-    assert desk.out == ["stored 1"], "what the desk was shown"
-    (room.path / "aside").rename(room.folder)
-    room.start()
-    assert desk.answer() == "stored 2"
-    room.check({1: [FIRST, SECOND]})
-
-
-def test_checkpoints(new_room):
+def test_checkpoints(room):
     """what has come is brought into night.db between lines, once it is much, and the -wal is written from its beginning again"""
-    new_room.start()
     lines = [f"return 1 1 {number} {number}" for number in range(1, 301)]
-    assert new_room.ask(1, *lines).out[-1] == "stored 300", "the last answer"
-    assert (new_room.folder / "night.db-wal").stat().st_size < 1 << 19, "the -wal stays short"
-    assert (new_room.folder / "night.db").stat().st_size > 1 << 16, "night.db has it"
-    new_room.restart()
-    new_room.check({1: lines})
+    assert room.ask(1, *lines).out[-1] == "stored 300", "the last answer"
+    assert (room.folder / "night.db-wal").stat().st_size < 1 << 19, "the -wal stays short"
+    assert (room.folder / "night.db").stat().st_size > 1 << 16, "night.db has it"
+    room.restart()
+    room.check({1: lines})
+
+
+# At a start
+
+
+@pytest.mark.parametrize("words, text", [
+    (lambda room: [PROGRAM, "run", "--setup", room.setup, "--disk", room.disk], "another program has the disk: waiting for its end"),
+    (lambda room: room.script("zhcount-office", "--replay", room.folder), "waiting for the end of zhcount-office --replay, process {} of "),
+], ids=["disk", "folder"])
+def test_start_waits(room, words, text):
+    """a start waits for a program that has the disk, and for a replay that has the folder, and says so; it goes on by itself, or ends where
+    it is told to"""
+    room.stop()
+    flag = room.path / "flag"
+    flag.touch()
+    room.stands_in(f"[ $1 = format ] && while [ -e '{flag}' ]; do sleep 0.02; done")
+    holder = room.process(Process, words(room))
+    holder.write(f"1 {FIRST}\n")
+    until("it is at work", lambda: holder.out or room.children_of(holder))
+    room.environment["ZHCOUNT"] = str(PROGRAM)
+    room.start(is_awaited=False).says(text.format(holder.process.pid))
+    assert room.stop() == 0, "told to end"
+    room.start(is_awaited=False).says(text.format(holder.process.pid))
+    flag.unlink()
+    assert holder.end() == 0, f"the other: {holder.said()}"
+    room.await_start()
+    room.office.says("start 2,")
+
+
+BEFORE = ["return 1 1 1 525 -> stored 1", "return 1 2 1 300 -> stored 2", "close 2 -> stored 3", "open -> held 0", "row 3 2 1 60 -> held 1"]
+LINE = "return 3 1 1 90"  # which a stop leaves without an answer
+
+
+def mode(bits):
+    return lambda room: room.folder.chmod(bits)
+
+
+def program(task, does):
+    """A program that does something else for a task."""
+    return lambda room: room.stands_in(f"[ $1 = {task} ] && {{ {does}; exit; }}")
+
+
+def disk(lines):
+    return lambda room: os.replace(room.other_disk(*lines), room.disk)
+
+
+def log(statement):
+    def change(room):
+        with sqlite3.connect(room.folder / "night.db") as db:
+            db.execute(statement)
+        db.close()
+    return change
+
+
+DISKS = {"fewer": ["return 1 1 1 525", "return 1 2 1 300"], "other returns": ["return 1 1 1 526", "return 1 2 1 300", "close 2"],
+         "other closings": ["return 1 1 1 525", "return 1 2 1 300", "close 3"],
+         "a return is missing": ["return 1 1 1 525", "return 3 2 1 300", "close 2", "return 3 3 1 5"],
+         "a return is another": ["return 1 1 1 520", "return 1 2 1 300", "close 2", "return 3 3 1 5"]}
+REFUSED = {
+    **{name: (disk(lines), f"the disk has {len(lines)} commands, and not all of the log's 3") for name, lines in DISKS.items()},
+    "no disk": (lambda room: room.disk.unlink(), "zhcount: disk device"),
+    "a disk that fails": (lambda room: room.edits_answers("s/held 1/refused device/"),
+                          "the disk has failed: refused device. Copy it before anything else"),
+    "another set-up": (lambda room: room.setup.write_text(room.setup.read_text() + "# other\n"),
+                       "{0.setup} is not the set-up of this log: give the right one, or another folder and a new disk"),
+    "no set-up": (lambda room: room.setup.unlink(), "No such file or directory"),
+    "no program": (lambda room: room.environment.update(ZHCOUNT=f"{room.path}/none"),
+                   "{0.path}/none can't be started: No such file or directory"),
+    "other sums": (program("status", r"echo a text; echo no sums >&2"), "night.disk can't be read"),
+    "bytes of status": (program("status", r"printf '\xff\n'"), "night.disk can't be read"),
+    "other rows": (program("export", r"printf 'a text\nmore\n'"), "night.disk can't be read"),
+    "bytes of export": (program("export", r"printf '\xff\xfe\n'"), "night.disk can't be read"),
+    "bytes of a reason": (program("status", r"printf 'zhcount: disk damaged \xff\n' >&2; exit 1"), "zhcount status"),
+    "another program's log": (log("PRAGMA application_id = 1"), "of another program or version: application_id 1, user_version 1"),
+    "another version's log": (log("PRAGMA user_version = 2"), "of another program or version: application_id 2053661550, user_version 2"),
+    "a line was changed": (log("UPDATE event SET text = 'return 1 1 1 526' WHERE text = 'return 1 1 1 525'"),
+                           "event 3 does not follow the one before it"),
+    "a time was changed": (log("UPDATE event SET at = at || '0' WHERE number = 4"), "event 4 does not follow the one before it"),
+    "an event was removed": (log("DELETE FROM event WHERE number = 4"), "event 5 does not follow the one before it"),
+    "half of a log": (lambda room: (room.folder / "night.db").unlink(), "{0.folder} has no night.db"),
+    "an older folder": (lambda room: (room.folder / "protocol").touch(),
+                        "{0.folder} has the transcripts of an older zhcount: end that count with the scripts that it was begun with"),
+    "others may read": (mode(0o2755), "others may use {0.folder}: 'chmod 2750 {0.folder}' makes it right"),
+    "others may write": (mode(0o2752), "others may use {0.folder}"),
+    "the group may write": (mode(0o2770), "others may use {0.folder}"),
+    "another user's": (lambda room: os.chown(room.folder, 65534, 65534),
+                       "belongs to nobody, and root runs the office: run it as nobody, or, as root, 'chown -R root {0.folder}'"),
+}
+AS_ROOT = ("another user's",)  # only root can give a folder away
+
+
+@pytest.mark.parametrize("name", REFUSED)
+def test_refused(room, name):
+    """a start with something that is not the log's, or is no log, says so with status 3, and notes and makes nothing; once that is right
+    again it has lost nothing. Where there is no program the status is 1, which says: it may be tried again"""
+    if name in AS_ROOT and os.geteuid() != 0:
+        pytest.skip("only root can give a folder away, or start an office as another user")
+    change, text = REFUSED[name]
+    desk = room.stops_at(room.desk(1).talk(*BEFORE), LINE)
+    own, setup = shutil.copy(room.disk, room.path / "own.disk"), room.setup.read_text()
+    folder = shutil.copytree(room.folder, room.path / "own", ignore=shutil.ignore_patterns("desk"))
+    change(room)
+    found = room.events(), sorted(os.listdir(room.path))
+    room.refuses(text.format(room), status=1 if name == "no program" else 3)
+    assert (room.events(), sorted(os.listdir(room.path))) == found, "nothing is noted or made"
+    shutil.rmtree(room.folder)
+    folder.rename(room.folder)
+    os.replace(own, room.disk)
+    room.setup.write_text(setup)
+    room.environment["ZHCOUNT"] = str(PROGRAM)
+    room.start()
+    assert desk.answer() == "stored 4", "its answer"
+    desk.talk("commit -> stored 5").end()
+    room.check()
+
+
+def test_no_log(new_room):
+    """a night.db that is no SQLite file is refused, and left as it is"""
+    new_room.folder.mkdir(mode=0o750)
+    path, data = new_room.folder / "night.db", b"something else" * 1000
+    path.write_bytes(data)
+    new_room.refuses("night.db")
+    assert ([*new_room.folder.iterdir()], path.read_bytes()) == ([path], data), "it is left"
+
+
+def test_used_disk(new_room):
+    """a new folder with a disk that has commands is refused, unless it is said that it is meant; then the folder begins with that disk. No
+    disk is taken in a folder that has a start, and none while another program has it"""
+    def take(status):
+        return new_room.zhcount_office("--take", new_room.setup, new_room.disk, new_room.folder, status=status)
+
+    new_room.by_hand("return 1 1 1 525", "close 2")
+    new_room.refuses(f"{new_room.disk} has 2 commands, but {new_room.folder} has no log of them: take a new disk, or, if it is meant, "
+                     "begin the log by --take")
+    assert not events(new_room.folder, "start", "loaded"), "nothing is noted of a start"
+    assert "the disk is taken with its 2 commands" in take(0), "it is said"
+    new_room.start()
+    assert f"another office, witness or replay has {new_room.folder}" in take(3), "while an office runs"
+    assert new_room.ask(1, "show 1 1", "return 1 2 1 300").out == ["shows 1 525", "stored 3"]
+    new_room.check()
+    number = len(new_room.events())
+    assert f"{new_room.folder} has a log already" in take(3), "it is refused"
+    assert len(new_room.events()) == number, "nothing is noted"
+    assert new_room.rebuilt() == new_room.zhcount("export"), "the export is that of the disk made anew"
+
+
+def test_commands_beside(room):
+    """what another program stores while the office starts is in what it compares: the copy is of the time when `run` has the disk. A load
+    that gets the disk as the office ends is not in what the end notes: the next start notes it, and a rebuild goes"""
+    flag, held, table = (room.path / it for it in ("flag", "held", "beside.csv"))
+    files = f"--setup '{room.setup}' --disk '{room.disk}'"
+    table.write_text("municipality,list,number,votes\n3,1,1,90\n")
+    assert room.ask(1, "return 1 1 1 525").out == ["stored 1"]
+    # The load tries again and again, and so has the disk as soon as the office lets go of it.
+    loader = room.process(Process, ["bash", "-c", f"until '{PROGRAM}' load {files} --csv '{table}' 2> /dev/null; do :; done"])
+    assert room.stop() == 0, "the end"
+    assert loader.wait() == 0, "the load"
+    assert room.events()[-1].facts()["commands"] == 1, "what the end has noted"
+    # Just before the office's run opens the disk, one by hand stores a command.
+    by_hand = f"printf '1 return 1 2 1 300\\n' | '{PROGRAM}' run {files} > '{held}'"
+    room.stands_in(f"if [ $1 = run ] && mkdir '{flag}' 2> /dev/null; then {by_hand}; fi")
+    room.start().says("2 commands came in by hand before this start")
+    assert held.read_text() == "1 stored 3\n", "it was stored"
+    assert room.ask(1, "return 1 3 1 120").out == ["stored 4"]
+    room.stop()
+    assert room.rebuilt() == room.zhcount("export"), "the export is that of the disk made anew"

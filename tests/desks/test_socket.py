@@ -1,25 +1,32 @@
-"""Tests of an office's socket: whatever comes over it, who may use it, and how it is reached."""
+"""Tests of an office's socket: whatever comes over it, how it is reached, and connections: to an office that has another log by now, one
+alone for each desk, and their streams."""
 import contextlib
 import json
 import os
-import pathlib
+import pwd
 import random
 import re
 import signal
 import socket
+import subprocess
 import time
 
-from now import NEVER, QuickRoom
-from processes import SECONDS, Desk
-from room import running, until
+import pytest
+
+from processes import SECONDS, Desk, stand_still, until
+
+
+def connected(room):
+    at = socket.socket(socket.AF_UNIX)
+    at.connect(str(room.folder / "desk"))
+    return at
 
 
 def at_socket(room, *sent, seconds=SECONDS, more_seconds=SECONDS):
     """What the office answers to these bytes, of which each waits for the answer to those before, and whether it ended the connection,
     which is awaited so many seconds more."""
     got = b""
-    with socket.socket(socket.AF_UNIX) as at:
-        at.connect(str(room.folder / "desk"))
+    with connected(room) as at:
         at.settimeout(seconds)
         try:
             for it in sent:
@@ -40,19 +47,22 @@ def line_of(turn, text):
     return f'{{"turn": {turn}, "line": "{text}"}}\n'.encode()
 
 
-HELLO = b'{"desk": 3}\n'
+HELLO = b'{"desk": 3}\n'  # which has sent one line
 NO_LINES = [b"\n", b"garbage\n", b"[1]\n", b"[" * 995 + b"\n", b'{"a":' * 180 + b"\n", b"\0" * 500 + b"\n", b"\xff\xfe\n", b"x" * 1000000,
-            b'{"turn": 1}\n', line_of("true", "show 1 1"), line_of("1.0", "show 1 1"), line_of(2, "show 1 1"), line_of(0, "show 1 1"),
-            line_of(-1, "show 1 1"), line_of("1e999", "show 1 1"), line_of("9" * 900, "show 1 1"), b'{"turn": 1, "line": 5}\n',
-            line_of(1, "show 1 1\\n2 close 1"), line_of(1, "show 1 1\\\\x0a2 close 1"), line_of(1, "\\\\x41"), line_of(1, "\\\\x5C"),
-            line_of(1, "\\ud800"), b'{"turn": 1, "line": "\xc3\xa9"}\n', line_of(1, "9" * 122), line_of(1, "\\\\x00" * 122),
-            b'{"desk": 4}\n', line_of(1, "show 1 1") + line_of(2, "show 1 1"), line_of(1, "show 1 1") + b"{"]
+            b'{"turn": 2}\n', line_of("true", "show 1 1"), line_of("2.0", "show 1 1"), line_of(3, "show 1 1"), line_of(1, "show 1 1"),
+            line_of(0, "show 1 1"), line_of(-1, "show 1 1"), line_of("1e999", "show 1 1"), line_of("9" * 900, "show 1 1"),
+            b'{"turn": 2, "line": 5}\n', line_of(2, "show 1 1\\n2 close 1"), line_of(2, "show 1 1\\\\x0a2 close 1"), line_of(2, "\\\\x41"),
+            line_of(2, "\\\\x5C"), line_of(2, "\\ud800"), b'{"turn": 2, "line": "\xc3\xa9"}\n', line_of(2, "9" * 122),
+            line_of(2, "\\\\x00" * 122), b'{"desk": 4}\n', line_of(2, "show 1 1") + line_of(3, "show 1 1"), line_of(2, "show 1 1") + b"{"]
 NO_DESKS = [b'{"desk": 0}\n', b'{"desk": 9}\n', b'{"desk": "3"}\n', b'{"desk": true}\n', b'{"desk": 3.0}\n', b"{}\n", b"null\n", b"\0\n",
-            b'{"desk": 1}\n', b"x" * 2000, line_of(1, "show 1 1")]
+            b'{"desk": 1}\n', b"x" * 2000, line_of(2, "show 1 1")]
 
 
 def test_garbage(room):
-    """only a line in its one spelling, alone, with the turn that is the next, is taken; whatever else comes ends that connection alone"""
+    """only a line in its one spelling, alone, with the turn that is the next, also after those of a start before, is taken; whatever else
+    comes ends that connection alone, is not noted, and the office's own log has each text once"""
+    room.ask(3, "show 3 3")
+    room.restart()
     good = room.desk(1).talk("return 1 1 1 525 -> stored 1")
     for data in NO_LINES:
         got, has_ended = at_socket(room, HELLO, data)
@@ -64,26 +74,20 @@ def test_garbage(room):
         assert has_ended and b"refused" in got, f"{hello[:60]} is no desk: {got}"
     chance = random.Random(86)
     for _ in range(100):
-        data = bytearray(HELLO + line_of(1, "show 1 1") + line_of(2, "row 1 1 1 1"))
+        data = bytearray(HELLO + line_of(2, "show 1 1") + line_of(3, "row 1 1 1 1"))
         for _ in range(chance.randint(1, 6)):
             at = chance.randrange(len(data))
             data[at:at + chance.randint(0, 3)] = bytes(chance.randrange(256) for _ in range(chance.randint(0, 3)))
         at_socket(room, bytes(data), seconds=0.02)
-    assert room.of_desk(3) == [], "the lines of desk 3"
+    said = len(room.office.error)
+    for _ in range(300):
+        at_socket(room, HELLO, line_of(7, "x" * 100))
+    assert len(room.office.error) < said + 20, f"few lines: {len(room.office.error) - said}"
+    assert room.of_desk(3) == [("show 3 3", "none")], "the lines of desk 3"
+    got, _ = at_socket(room, HELLO, line_of(2, "show 1 1"), line_of(3, "show 1 2"), more_seconds=1)
+    assert [json.loads(it)["answer"] for it in got.split(b"\n")[1:-1]] == ["shows 1 525", "none"], "its next ones"
     good.talk("show 1 1 -> shows 1 525").end()
-    room.check({1: ["return 1 1 1 525", "show 1 1"]})
-
-
-def test_turns(room):
-    """a line is taken if its turn is the one after the last, also of a start before"""
-    room.ask(1, "return 1 1 1 525")
-    room.restart()
-    for turn in (3, 1):
-        assert at_socket(room, b'{"desk": 1}\n', line_of(turn, "close 1"))[1], f"turn {turn} is refused"
-    got, _ = at_socket(room, b'{"desk": 1}\n', line_of(2, "show 1 1"), line_of(3, "show 1 2"), more_seconds=1)
-    assert [json.loads(it)["answer"] for it in got.split(b"\n")[1:-1]] == ["shows 1 525", "none"]
-    assert [it for it, _ in room.of_desk(1)] == ["return 1 1 1 525", "show 1 1", "show 1 2"], "what is noted"
-    room.check()
+    room.check({1: ["return 1 1 1 525", "show 1 1"], 3: ["show 3 3", "show 1 1", "show 1 2"]})
 
 
 def test_nobody_is_disturbed(room):
@@ -91,23 +95,16 @@ def test_nobody_is_disturbed(room):
     good, stopped = (room.desk(number).talk("show 1 1 -> none") for number in (1, 2))
     stopped.write("show 1 2\n")
     stopped.kill(signal.SIGSTOP)
-    idle = [socket.socket(socket.AF_UNIX) for _ in range(200)]
-    for it in idle:
-        it.connect(str(room.folder / "desk"))
-    flood = socket.socket(socket.AF_UNIX)
-    flood.connect(str(room.folder / "desk"))
+    *idle, flood = [connected(room) for _ in range(201)]
     flood.sendall(b'{"desk": 5}\n')
     flood.setblocking(False)
     with contextlib.suppress(OSError):  # until it is full, or ended
         for turn in range(1, 20000):
             flood.sendall(line_of(turn, "show 1 1"))
     assert len(os.listdir(f"/proc/{room.office.process.pid}/fd")) < 100, "few of them are kept"
-    took = []
-    for number in range(1, 31):
-        began = time.monotonic()
-        good.talk(f"return 1 1 {number} 525 -> stored {number}")
-        took.append(time.monotonic() - began)
-    assert sorted(took)[15] < 5, f"the seconds that an answer took: {sorted(took)[-3:]}"
+    began = time.monotonic()
+    good.talk(*(f"return 1 1 {number} 525 -> stored {number}" for number in range(1, 31)))
+    assert time.monotonic() - began < 150, f"the seconds that 30 answers took: {time.monotonic() - began}"
     assert room.ask(4, "show 1 1").out == ["shows 30 525"], "another one is let in"
     for it in (*idle, flood):
         it.close()
@@ -117,25 +114,17 @@ def test_nobody_is_disturbed(room):
 
 
 def test_long_sheet_that_waits(new_room):
-    """who reads a sheet late that has more bytes than the socket takes at once gets all of it, and no other desk waits for that; a desk
-    shows it whole"""
+    """a desk that reads a sheet late that has more bytes than the socket takes at once shows all of it, and no other desk waits for that"""
     new_room.edits_answers("/^house/{s/^/XXXXXXXXXX/;" + "s/X*/&&/;" * 15 + "}")
     new_room.start()
     desk = new_room.desk(1).talk(*(f"return {municipality} 1 1 90 -> stored {municipality}" for municipality in (1, 2, 3)))
-    got = b""
-    with socket.socket(socket.AF_UNIX) as at:
-        at.connect(str(new_room.folder / "desk"))
-        at.settimeout(SECONDS)
-        at.sendall(HELLO)
-        at.recv(65536)
-        at.sendall(line_of(1, "sheet"))
-        until("it is answered", lambda: new_room.of_desk(3))
-        assert new_room.ask(2, "show 1 1").out == ["shows 1 90"], "another desk's answer"
-        with contextlib.suppress(TimeoutError):
-            while not got.endswith(b"\n"):
-                got += at.recv(65536)
-    assert got.count(b"X") == 10 << 15, "the length of its second line"
-    assert desk.send("sheet").split("\n")[1].count("X") == 10 << 15, "the length as it is shown"
+    run_process = new_room.unanswered(desk, "sheet")
+    stand_still(desk.process.pid)
+    os.kill(run_process, signal.SIGCONT)
+    until("it is answered", lambda: new_room.of_desk(1)[-1][1])
+    assert new_room.ask(2, "show 1 1").out == ["shows 1 90"], "another desk's answer"
+    desk.kill(signal.SIGCONT)
+    assert desk.answer("sheet").split("\n")[1].count("X") == 10 << 15, "the length of its second line"
     new_room.stop()
 
 
@@ -152,30 +141,116 @@ def test_long_path(new_room):
     new_room.check()
 
 
-def test_what_the_group_may_use():
-    """nothing in the folder but the socket can be opened by the group to be written, and nothing that it could lock is"""
-    with running(QuickRoom(every=NEVER)) as room:
-        room.ask(1, "return 1 1 1 525", "return 2 1 1 240", "return 3 1 1 90", "sheet")
-        until("the sheet", (room.folder / "sheet-3").exists)
-        room.shows(0)
-        for path in room.folder.rglob("*"):
-            mode = path.lstat().st_mode & 0o777
-            if path.name == "desk":
-                assert mode == 0o660, "the socket"
-            elif not path.is_symlink():
-                may = 0o077 if path.name.startswith("night.db") else 0o022 if "publish" in path.parts else 0o027
-                assert mode & may == 0, f"what the group may do to {path.name}"
-        inodes = {path.lstat().st_ino for path in room.folder.rglob("*") if path.lstat().st_mode & 0o070}
-        locked = re.findall(r":(\d+) \d+ \S+$", pathlib.Path("/proc/locks").read_text(), re.MULTILINE)
-        assert {int(it) for it in locked} & inodes == set(), "locks on what the group may open"
-        room.check()
+# Another log
 
 
-def test_garbage_does_not_fill_the_log(room):
-    """what is refused is not noted, and the office's own log has each text once"""
-    size = sum(len(it.text) for it in room.events())
-    for _ in range(300):
-        at_socket(room, HELLO, line_of(7, "x" * 100))
-    assert sum(len(it.text) for it in room.events()) == size, "what is noted"
-    assert len(room.office.error) < 20, f"few lines: {len(room.office.error)}"
-    room.check()
+def made_anew(room, _):
+    """Folder and disk are, and another connection has sent as many lines."""
+    for path in (room.folder, room.disk):
+        path.rename(f"{path}.before")
+    room.zhcount("format")
+    room.start()
+    assert room.ask(3, "show 1 1", "show 1 2").out == ["none", "none"], "another connection"
+
+
+def older_copy(room, copied):
+    """The log is an older copy, which lacks an answer that the desk knows."""
+    (room.folder / "night.db").write_bytes(copied)
+    (room.folder / "night.db-wal").unlink()
+    room.start()
+
+
+def other_lines(room, _):
+    """The line is answered, and another connection has sent one."""
+    room.start()
+    assert room.ask(3, "show 1 1").out == ["none"], "another connection"
+
+
+@pytest.mark.parametrize("change, shown", [(made_anew, "none"), (older_copy, "none"), (other_lines, "shows 1 90")])
+def test_connect_again(room, change, shown):
+    """a desk that waits for an answer, or for a line, ends when its office has another log, an older copy of it, or lines of another
+    connection, and says what has no answer, which is not sent; the next connection begins anew"""
+    desk = room.desk(3).talk("show 1 1 -> none")
+    room.stop()
+    copied = (room.folder / "night.db").read_bytes()
+    room.start()
+    is_idle = room.desk(4).talk("show 1 1 -> none")
+    room.stops_at(desk.talk("show 1 2 -> none"), "return 3 1 1 90")
+    stand_still(desk.process.pid)
+    change(room, copied)
+    desk.kill(signal.SIGCONT)
+    for it in [desk] if change is other_lines else [desk, is_idle]:
+        assert it.wait() == 1, "its end"
+        it.says("the office has another log, or other lines of this desk, by now: connect again")
+    desk.says("without an answer: return 3 1 1 90")
+    assert desk.out == ["none", "none"], "what it shows"
+    assert room.ask(3, "show 3 1").out == [shown], "connected again"
+
+
+# One connection a desk
+
+
+def test_second_connection(room):
+    """of two connections with one number the second is refused, and told who has the desk since when, until the first has ended"""
+    first = room.desk(7).talk("show 1 1 -> none")
+    second = room.ask(7, "show 1 1")
+    assert (second.status, second.out) == (1, []), "the second"
+    name = pwd.getpwuid(os.geteuid()).pw_name
+    wanted = rf"desk 7: another connection has this desk: of {name} since \d\d:\d\d:\d\d$"
+    assert re.search(wanted, second.said(), re.M), f"it is said: {second.said()}"
+    first.talk("show 1 2 -> none").kill()
+    assert room.ask(7, "show 1 3").out == ["none"], "the second then"
+    desk = room.desk(8).talk("show 1 1 -> none")
+    desk.process.stdout.close()
+    desk.write("show 1 1\n")
+    assert desk.wait() == 1, "nobody hears it: it ends"
+
+
+CLOCK = """import time as real
+from types import SimpleNamespace
+time = SimpleNamespace(strftime=real.strftime, monotonic=lambda: float(open({!r}).read()))"""
+
+
+@pytest.mark.parametrize("has_typed", [False, True], ids=["idle", "stopped"])
+def test_taken_over(new_room, has_typed):
+    """a desk that was heard of a moment ago is not taken over, however long ago it connected. One whose connection is silent is, at once;
+    the one before ends, and its line is in its place. One that stands still meanwhile gives up the line that it has not sent"""
+    room, clock = new_room, new_room.path / "clock"  # by which an office knows how long a desk is silent
+    clock.write_text("0")
+    room.edit_script("zhcount_connections.py", "^import time$", CLOCK.format(str(clock)))
+    room.start()
+    first = room.desk(7).talk("return 1 1 1 525 -> stored 1")
+    for seconds in (10, 20, 30):
+        clock.write_text(str(seconds))
+        assert "another connection has this desk" in room.ask(7).said(), f"another one is refused after {seconds} seconds"
+        first.talk("show 1 1 -> shows 1 525")
+    if has_typed:
+        stand_still(first.process.pid)  # so that it finds both, the line and what the office says
+        first.write("close 1\n")
+    clock.write_text("51")
+    second = room.desk(7).talk("return 1 1 2 530 -> stored 2")
+    second.says("before: show 1 1: shows 1 525")
+    first.kill(signal.SIGCONT)
+    assert first.wait() == 1, "the end of the first"
+    assert re.search(r"desk 7: \w+ has taken this desk over", first.said()), f"it says why: {first.said()}"
+    second.talk("show 1 1 -> shows 2 530").end()
+    room.check({7: ["return 1 1 1 525", *["show 1 1"] * 3, "return 1 1 2 530", "show 1 1"]})
+
+
+# Streams
+
+
+def test_closed_streams(room):
+    """the log never takes the place of standard input, output or error; where nobody reads what is said each line is answered"""
+    room.ask(3, "return 1 1 1 525")
+    pipe = os.pipe2(os.O_NONBLOCK)
+    os.write(pipe[1], b"x" * 65536)  # as much as it takes
+    for streams, *wanted in [("<&-", 0, "", False), ("2>&-", 0, "shows 1 525\n", False), (">&-", 1, "", True),
+                             (f"2> /proc/{os.getpid()}/fd/{pipe[1]}", 0, "shows 1 525\n", False), ("<&- >&- 2>&-", 0, "", False)]:
+        ran = subprocess.run(["sh", "-c", f'exec "$@" {streams}', "sh", *room.script("zhcount-desk", "3", room.folder)], text=True,
+                             input="show 1 1\n", capture_output=True, timeout=SECONDS)
+        assert [ran.returncode, ran.stdout, "Bad file descriptor" in ran.stderr] == wanted, f"with {streams}: {ran.stderr}"
+    room.ask(3).says("before: show 1 1: shows 1 525")
+    for it in pipe:
+        os.close(it)
+    room.check({3: ["return 1 1 1 525", *["show 1 1"] * 3]})

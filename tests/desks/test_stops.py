@@ -13,14 +13,14 @@ import random
 import signal
 import subprocess
 import tempfile
-import threading
 from typing import Tuple
 
 import pytest
 
+from counting import counted
 from logs import events
+from people import Person
 from room import Room, until
-from two_desks import Night
 from watch import ApartRoom, Device, Stop, WatchedRoom, restore
 
 # Each has more processes than there are processors, so they come one after the other.
@@ -29,6 +29,78 @@ ALL = pytest.mark.parametrize("is_all", [False, pytest.param(True, marks=pytest.
 AT_ONCE = 2 * (os.cpu_count() or 1)  # nights; for a part of its time a night waits
 FAULTS = {"write": errno.ENOSPC, "truncate": errno.EIO, "sync": errno.EIO, "open": errno.ENOSPC, "make": errno.ENOSPC,
           "chmod": errno.EIO, "rename": errno.EIO, "link": errno.EIO, "unlink": errno.EIO}
+# The lines of the night, each with its desk and its answer. After so many the office is told to end, and started again.
+NIGHT = [(1, "open", "held 0"), (1, "row 1 1 1 300", "held 1"), (2, "return 2 1 1 240", "stored 1"), (2, "return 3 1 1 90", "stored 2"),
+         (1, "commit", "stored 3"), (2, "sheet", "2 sheet provisional 3"), (1, "close 1", "stored 4")]
+EVENING = 3
+EXPORT = "municipality,list,number,votes\n1,1,1,300\n2,1,1,240\n3,1,1,90\n"
+TRIES = 20  # of an end
+
+
+class Night:
+    """The night of two desks, whose lines are each sent once the one before is answered. A process that ends with one of the statuses
+    `may_end` is started again."""
+
+    def __init__(self, room, done=0, typed=None, may_end=(-signal.SIGKILL,)):
+        self.room, self.done, self.may_end = room, done, may_end
+        self.people = {it: Person(room, it, (typed or {}).get(it, ()), self.look_after_office, may_end) for it in (1, 2)}
+        self.ended, self.is_ending = [], False  # how offices ended that were not told to; whether this one was
+
+    def go_on(self):
+        """Goes through what is left of the night."""
+        self.start()
+        for number, (desk, line, wanted) in enumerate(NIGHT[self.done:], self.done + 1):
+            assert self.people[desk].type(line) == wanted, f"the answer to {line}"
+            self.done = number
+            if number == EVENING:
+                self.end_office()
+                self.start()
+        self.end_office()
+        for it in [it.desk for it in self.people.values() if it.desk]:
+            assert it.out[it.taken:] == [], "nothing else is shown"
+            it.process.stdin.close()
+
+    def typed(self):
+        """What was typed and shown by now, at each desk."""
+        return {number: [*it.typed] for number, it in self.people.items()}
+
+    def start(self):
+        self.room.office, self.is_ending = None, False
+        self.room.start(is_awaited=False)
+
+    def stage(self):
+        """What the office does."""
+        if self.is_ending:
+            return "end"
+        return "lines" if self.room.office and self.room.serves() else "start"
+
+    def look_after_office(self):
+        """Starts the office again where it was stopped."""
+        if self.room.office.has_ended():
+            self.ended.append(self.room.office.wait())
+            said = self.room.office.said()
+            assert self.ended[-1] in self.may_end and "Traceback" not in said, f"the office ends with {self.ended[-1]}: {said}"
+            self.start()
+
+    def end_office(self):
+        """Tells the office to end once it serves, as often as it is stopped on the way."""
+        for _ in range(TRIES):
+            until(lambda: f"an office: {self.room.office.said()}", lambda: self.look_after_office() or self.room.serves())
+            self.is_ending = True
+            if not self.room.stop():
+                break
+            self.look_after_office()
+        assert "every line is answered" in self.room.office.said(), f"every line is answered: {self.room.office.said()}"
+
+    def check(self):
+        """What was shown, the log, the disk made anew and the export agree."""
+        counted(self.room.events())
+        for it in self.people.values():
+            it.check()
+        assert self.room.zhcount("export") == EXPORT, "the export"
+        facts = self.room.events()[-1].facts()
+        assert (facts["commands"], facts["reason"]) == (4, "told to"), "the last event"
+        assert self.room.rebuilt() == EXPORT, "the export of the disk made anew"
 
 
 def is_of_now(call):
@@ -38,14 +110,6 @@ def is_of_now(call):
 
 def is_of_log(call):
     return call.file.startswith("night.db") and call.name in ("write", "sync", "truncate")
-
-
-def events_of(files):
-    """The events in these bytes of a log's files."""
-    with tempfile.TemporaryDirectory(prefix="log-", dir=Room.shared()) as place:
-        for name, data in files.items():
-            pathlib.Path(place, name).write_bytes(data)
-        return events(place)
 
 
 def has_its_end(night, title):
@@ -66,28 +130,24 @@ def chosen(kinds, is_all):
 
 def each(jobs):
     """Runs these side by side, those that are near to each other not soon after each other. After a fault no more are begun."""
-    spread, is_over = sorted(range(len(jobs)), key=lambda it: it * 0.618 % 1), threading.Event()
-
-    def run(number):
-        try:
-            if not is_over.is_set():
-                jobs[number]()
-        except BaseException:
-            is_over.set()
-            raise
     with concurrent.futures.ThreadPoolExecutor(AT_ONCE) as pool:
-        list(pool.map(run, spread))
+        runs = [pool.submit(jobs[it]) for it in sorted(range(len(jobs)), key=lambda it: it * 0.618 % 1)]
+        concurrent.futures.wait(runs, return_when=concurrent.futures.FIRST_EXCEPTION)
+        runs = [it for it in runs if not it.cancel()]
+    for it in runs:
+        it.result()
 
 
 class StopOf(Stop):
     """A night with a stop of the office, of a desk, or of the witness, before a call; of writes to a file that come one after the other,
-    the first. Where its number is 0 nothing is stopped, and `kinds` has of each call what it is."""
+    the first. Where its number is 0 nothing is stopped. `kinds` has of each call what it is, and `unsynced` what office or witness told
+    somebody of an event that was not on their device, or not answered."""
 
     statuses: Tuple[int, ...] = (-signal.SIGKILL,)
 
     def __init__(self, who, number):
         super().__init__(number)
-        self.who, self.last, self.kinds = who, None, []
+        self.who, self.last, self.kinds, self.unsynced = who, None, [], []
 
     def counts(self, call):
         if not self.room.is_of(self.who, call) or call.name == "look" or is_of_now(call):
@@ -98,11 +158,29 @@ class StopOf(Stop):
         self.kinds.append((call.name, call.file, self.night.stage()))
         return True
 
+    def before(self, call):
+        folder = {"office": self.room.folder, "witness": self.room.copy}.get(call.who)
+        if folder and call.name == "send" and self.room.is_of(call.who, call):
+            self.look_at(folder, call)
+        fault = super().before(call)
+        if call.name == "sync" and call is not self.call:
+            self.device.sync(call.path)
+        return fault
+
+    def look_at(self, folder, call):
+        with tempfile.TemporaryDirectory(prefix="log-", dir=Room.shared()) as place:
+            for it in ("night.db", "night.db-wal"):
+                pathlib.Path(place, it).write_bytes(self.device.synced(str(folder / it)))
+            synced, there = events(place), events(folder)
+        kinds = [it.kind for it in there]
+        if synced != there or call.path == "socket" and kinds.count("line") != kinds.count("answer"):
+            self.unsynced.append(f"{call}: {there[len(synced):]}")
+
     def run(self):
         with WatchedRoom(self.before) as room:
-            self.room = room.with_witness() if self.who == "witness" else room
-            self.night = Night(room, may_end=self.statuses)
+            self.room, self.device, self.night = room.with_witness(), Device(room.path), Night(room, may_end=self.statuses)
             has_its_end(self.night, lambda: f"{self.who} before call {self.number}, {self.call}")
+            assert self.unsynced[:1] == [], f"what was sent, and is not on the device, {self.who} before call {self.number}, {self.call}"
             if self.who == "witness":
                 room.start()  # one that was stopped at the end lacks that
                 until("the witness has the same", lambda: room.events() == events(room.copy))
@@ -118,7 +196,8 @@ class StopOf(Stop):
 @ALL
 @pytest.mark.parametrize("who, least", [("office", 80), ("desk 1", 5), ("witness", 20)])
 def test_stopped(who, least, is_all):
-    """kill -9 of the office, of a desk or of the witness, at its calls"""
+    """kill -9 of the office, of a desk or of the witness, at its calls. Office and witness tell nobody of an event that is not on their
+    device, also where a process died before it had synced it"""
     StopOf.each(who, is_all, least)
 
 
@@ -158,84 +237,30 @@ def test_failed(is_all):
     FaultOf.each("office", is_all, 40)
 
 
-class Recorder:
-    """A night in which nothing is stopped, with the power cuts that there may be: what each leaves, how far the night is, its title, and
-    what the desks were shown; by the kind of the call."""
-
-    def __init__(self):
-        self.chance, self.cuts, self.kinds = random.Random(86), {}, []
-
-    def before(self, call):
-        night = self.night
-        is_own = any(night.room.is_of(who, call) for who in ("office", "desk 1", "desk 2"))
-        if is_own and call.name != "look" and not is_of_now(call):
-            for image, what in zip(self.device.images(self.chance), ("names and bytes as synced", "bytes as synced", "a write is torn")):
-                title = f"a cut before {call.who}: {call.name} {call.path}, in line {night.done + 1}, {what}"
-                key = image, night.done, repr(night.typed())
-                if key not in self.cuts:
-                    self.cuts[key] = title, night.typed()
-                    self.kinds.append((call.who, call.name, call.file, night.stage(), what))
-        if call.name == "sync":
-            self.device.sync(call.path)
-
-    def run(self):
-        with WatchedRoom(self.before) as room:
-            self.path, self.device, self.night = room.path, Device(room.path), Night(room)
-            has_its_end(self.night, lambda: "without a cut")
-
-    def go_on_after(self, image, done, title, typed):
-        with ApartRoom() as room:
-            restore(image, room, self.path)
-            has_its_end(Night(room, done, typed), lambda: title)
-
-
 @ALL
 def test_power_is_cut(is_all):
     """a power cut before calls of the office and of the desks: what was shown is held, of the log and of the disk"""
-    recorder = Recorder()
-    recorder.run()
-    assert len(recorder.cuts) > 80, f"cuts: {len(recorder.cuts)}"
-    cuts = [(*key[:2], *cut) for key, cut in recorder.cuts.items()]
-    each([functools.partial(recorder.go_on_after, *cuts[number - 1]) for number in chosen(recorder.kinds, is_all)])
+    chance, cuts, kinds = random.Random(86), {}, []  # what each cut leaves, and how far the night is; and its title, and what was shown
 
+    def before(call):
+        is_own = any(room.is_of(who, call) for who in ("office", "desk 1", "desk 2"))
+        if is_own and call.name != "look" and not is_of_now(call):
+            for image, what in zip(device.images(chance), ("names and bytes as synced", "bytes as synced", "a write is torn")):
+                key = image, night.done, repr(night.typed())
+                if key not in cuts:
+                    cuts[key] = f"a cut before {call.who}: {call.name} {call.path}, in line {night.done + 1}, {what}", night.typed()
+                    kinds.append((call.who, call.name, call.file, night.stage(), what))
+        if call.name == "sync":
+            device.sync(call.path)
 
-class Sent(StopOf):
-    """A night in which office or witness is stopped before a sync of its log, and everything that is sent afterwards is on the device: an
-    event that a process finds unsynced, as the one before died, is synced before anybody is told of it."""
+    def go_on_after(image, done, title, typed):
+        with ApartRoom() as other:
+            restore(image, other, room.path)
+            has_its_end(Night(other, done, typed), lambda: title)
 
-    def counts(self, call):
-        return call.name == "sync" and super().counts(call)
-
-    def before(self, call):
-        path = {"office": self.room.folder, "witness": self.room.copy}.get(call.who)
-        if path and call.name == "send" and self.room.is_of(call.who, call):
-            self.look(path, call)
-        fault = super().before(call)
-        if call.name == "sync" and self.call != call:
-            self.device.sync(call.path)
-        return fault
-
-    def look(self, path, call):
-        synced = {name: self.device.synced(str(path / name)) for name in ("night.db", "night.db-wal")}
-        there = {name: (path / name).read_bytes() if (path / name).exists() else b"" for name in synced}
-        found = [events_of(it) for it in (synced, there)]
-        kinds = [it.kind for it in found[1]]
-        if found[0] != found[1]:
-            self.unsynced.append(f"{call}: {found[1][len(found[0]):]}")
-        if call.path == "socket" and kinds.count("line") != kinds.count("answer"):
-            self.unsynced.append(f"{call}: a line without an answer")
-
-    def run(self):
-        self.unsynced = []
-        with WatchedRoom(self.before) as room:
-            self.room, self.device, self.night = room.with_witness(), Device(room.path), Night(room)
-            has_its_end(self.night, lambda: f"{self.who} before sync {self.number}")
-        assert self.unsynced[:1] == [], f"what was sent, and is not on the device, after a stop of {self.who} before sync {self.number}"
-        return self
-
-
-@ALL
-@pytest.mark.parametrize("who", ["office", "witness"])
-def test_sent_once_it_is_synced(who, is_all):
-    """office and witness tell nobody of an event that is not on their device, also where a process died before it had synced it"""
-    Sent.each(who, is_all, 10)
+    with WatchedRoom(before) as room:
+        device, night = Device(room.path), Night(room)
+        has_its_end(night, lambda: "without a cut")
+    assert len(cuts) > 80, f"cuts: {len(cuts)}"
+    found = [(*key[:2], *cut) for key, cut in cuts.items()]
+    each([functools.partial(go_on_after, *found[number - 1]) for number in chosen(kinds, is_all)])
