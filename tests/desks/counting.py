@@ -36,11 +36,8 @@ class Count(Office):
             return "refused syntax"
         before = dict(self.held)
         answer = self.misplaced(*taken) or super().answer(line)[2:]
-        self.note_setters(int(desk), before)
-        return answer
-
-    def note_setters(self, desk, before):
         self.setters.update({place: desk for place, entry in self.held.items() if entry != before.get(place)})
+        return answer
 
     def misplaced(self, municipality=1, group=None, _=0, votes=0):
         """The refusal of numbers that are no place in the canton; '' where there is none."""
@@ -58,17 +55,17 @@ class Count(Office):
 
     def load(self, *rows):
         """A table that came by hand: a command of desk 0."""
-        before = dict(self.held)
-        self.held.update({row[:2]: row[2:] for row in rows})
-        self.note_setters(0, before)
+        self.hold({row[:2]: row[2:] for row in rows})
         self.store()
 
     def become(self, commands, export, closed, **_):
         """What came by hand: the disk has so many commands, these rows, and these municipalities closed."""
-        before = dict(self.held)
-        self.held.update(rows_of(export))
-        self.note_setters(0, before)
+        self.hold(rows_of(export))
         self.commands, self.closed = commands, {int(it) for it in closed}
+
+    def hold(self, rows):
+        self.setters.update({place: 0 for place, entry in rows.items() if entry != self.held.get(place)})
+        self.held.update(rows)
 
 
 def random_line(chance, count):

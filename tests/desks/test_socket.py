@@ -22,9 +22,8 @@ def connected(room):
     return at
 
 
-def at_socket(room, *sent, seconds=SECONDS, more_seconds=SECONDS):
-    """What the office answers to these bytes, of which each waits for the answer to those before, and whether it ended the connection,
-    which is awaited so many seconds more."""
+def at_socket(room, *sent, seconds=SECONDS):
+    """What the office answers to these bytes, of which each waits for the answer to those before, and whether it ends the connection."""
     got = b""
     with connected(room) as at:
         at.settimeout(seconds)
@@ -33,7 +32,6 @@ def at_socket(room, *sent, seconds=SECONDS, more_seconds=SECONDS):
                 with contextlib.suppress(BrokenPipeError, ConnectionResetError):
                     at.sendall(it)
                 got += at.recv(65536)
-            at.settimeout(min(seconds, more_seconds))
             while more := at.recv(65536):
                 got += more
         except TimeoutError:
@@ -84,8 +82,7 @@ def test_garbage(room):
         at_socket(room, HELLO, line_of(7, "x" * 100))
     assert len(room.office.error) < said + 20, f"few lines: {len(room.office.error) - said}"
     assert room.of_desk(3) == [("show 3 3", "none")], "the lines of desk 3"
-    got, _ = at_socket(room, HELLO, line_of(2, "show 1 1"), line_of(3, "show 1 2"), more_seconds=1)
-    assert [json.loads(it)["answer"] for it in got.split(b"\n")[1:-1]] == ["shows 1 525", "none"], "its next ones"
+    assert room.ask(3, "show 1 1", "show 1 2").out == ["shows 1 525", "none"], "its next ones"
     good.talk("show 1 1 -> shows 1 525").end()
     room.check({1: ["return 1 1 1 525", "show 1 1"], 3: ["show 3 3", "show 1 1", "show 1 2"]})
 

@@ -1,7 +1,6 @@
 """Two desks' night, in which office, desk or witness is stopped (kill -9) at its calls that open, make, change, sync or rename a file, or
-that send something; the same night after a power cut at each of these moments, with what was not synced taken away; and the same where one
-of these calls fails. Each time the office is started again, and the night goes on to its end: what the desks were shown, the log, the disk
-made anew and the export have to agree, and each line has its one answer.
+that send something; the same after a power cut at these moments, and where one of these calls fails. Each time the office is started again,
+and the night goes on to its end: what the desks were shown, the log, the disk made anew and the export have to agree.
 
 `make test` takes of each kind of call the first and the last: at a start, among lines, at an end. `slow` takes all."""
 import concurrent.futures
