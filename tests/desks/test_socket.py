@@ -141,32 +141,10 @@ def test_long_path(new_room):
 # Another log
 
 
-def made_anew(room, _):
-    """Folder and disk are, and another connection has sent as many lines."""
-    for path in (room.folder, room.disk):
-        path.rename(f"{path}.before")
-    room.zhcount("format")
-    room.start()
-    assert room.ask(3, "show 1 1", "show 1 2").out == ["none", "none"], "another connection"
-
-
-def older_copy(room, copied):
-    """The log is an older copy, which lacks an answer that the desk knows."""
-    (room.folder / "night.db").write_bytes(copied)
-    (room.folder / "night.db-wal").unlink()
-    room.start()
-
-
-def other_lines(room, _):
-    """The line is answered, and another connection has sent one."""
-    room.start()
-    assert room.ask(3, "show 1 1").out == ["none"], "another connection"
-
-
-@pytest.mark.parametrize("change, shown", [(made_anew, "none"), (older_copy, "none"), (other_lines, "shows 1 90")])
-def test_connect_again(room, change, shown):
-    """a desk that waits for an answer, or for a line, ends when its office has another log, an older copy of it, or lines of another
-    connection, and says what has no answer, which is not sent; the next connection begins anew"""
+@pytest.mark.parametrize("change, others, shown", [("another log", 2, "none"), ("older copy", 0, "none"), ("other lines", 1, "shows 1 90")])
+def test_connect_again(room, change, others, shown):
+    """a desk that waits for an answer, or for a line, ends when its office has another log, though with as many lines, an older copy of it,
+    or lines of another connection, and says what has no answer, which is not sent; the next connection begins anew"""
     desk = room.desk(3).talk("show 1 1 -> none")
     room.stop()
     copied = (room.folder / "night.db").read_bytes()
@@ -174,9 +152,18 @@ def test_connect_again(room, change, shown):
     is_idle = room.desk(4).talk("show 1 1 -> none")
     room.stops_at(desk.talk("show 1 2 -> none"), "return 3 1 1 90")
     stand_still(desk.process.pid)
-    change(room, copied)
+    if change == "another log":
+        for path in (room.folder, room.disk):
+            path.rename(f"{path}.before")
+        room.zhcount("format")
+    elif change == "older copy":
+        (room.folder / "night.db").write_bytes(copied)
+        (room.folder / "night.db-wal").unlink()
+    room.start()
+    if others:
+        assert room.ask(3, *["show 1 1"] * others).out == ["none"] * others, "another connection"
     desk.kill(signal.SIGCONT)
-    for it in [desk] if change is other_lines else [desk, is_idle]:
+    for it in [desk] if change == "other lines" else [desk, is_idle]:
         assert it.wait() == 1, "its end"
         it.says("the office has another log, or other lines of this desk, by now: connect again")
     desk.says("without an answer: return 3 1 1 90")
