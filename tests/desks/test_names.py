@@ -15,16 +15,12 @@ def said(desk):
     return [it[len("zhcount-desk: "):] for it in desk.error if not re.search(r", start \d+ of the office|before: |: waiting", it)]
 
 
-def says(desk, *texts):
-    assert said(desk) == list(texts), "what is said"
-
-
 def talk(room, number, *script):
     """A desk sends the lines of a script, 'LINE -> ANSWER' each, and is answered so; the script's other texts are what it says beside."""
     lines = [it.split(" -> ") for it in script if " -> " in it]
     desk = room.ask(number, *(line for line, _ in lines))
     assert desk.out == [answer for _, answer in lines], f"the answers to desk {number}"
-    says(desk, *(it for it in script if " -> " not in it))
+    assert said(desk) == [it for it in script if " -> " not in it], "what is said"
 
 
 def test_names():
@@ -109,7 +105,8 @@ def test_final(room):
     desk = room.ask(4, "final", "final")
     sheet = desk.out[:len(desk.out) // 2]
     assert (sheet[0], sheet[-1], desk.out) == ("4 sheet final 10", "end", sheet * 2), "two final sheets"
-    says(desk, *["municipality 2, M: 1 of 3 returns missing", "municipality 3, W: 1 of 3 returns missing, 1 entered by one desk alone"] * 2)
+    warnings = ["municipality 2, M: 1 of 3 returns missing", "municipality 3, W: 1 of 3 returns missing, 1 entered by one desk alone"]
+    assert said(desk) == warnings * 2, "what is said"
 
 
 def test_many_municipalities():

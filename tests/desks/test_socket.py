@@ -62,14 +62,10 @@ def test_garbage(room):
     room.ask(3, "show 3 3")
     room.restart()
     good = room.desk(1).talk("return 1 1 1 525 -> stored 1")
-    for data in NO_LINES:
-        got, has_ended = at_socket(room, HELLO, data)
-        said = [json.loads(it) for it in got.split(b"\n")[:-1]]
-        is_said = len(data) > 65536 or "log" in said[0] and "refused" in said[-1]
+    for *hello, data in [*((HELLO, it) for it in NO_LINES), *((it,) for it in NO_DESKS)]:
+        got, has_ended = at_socket(room, *hello, data)
+        is_said = len(data) > 65536 or [*json.loads(got.splitlines()[-1])] == ["refused"]
         assert has_ended and is_said, f"{data[:60]} ends the connection: {got}"
-    for hello in NO_DESKS:
-        got, has_ended = at_socket(room, hello)
-        assert has_ended and b"refused" in got, f"{hello[:60]} is no desk: {got}"
     chance = random.Random(86)
     for _ in range(100):
         data = bytearray(HELLO + line_of(2, "show 1 1") + line_of(3, "row 1 1 1 1"))

@@ -12,7 +12,6 @@ import random
 import signal
 import subprocess
 import tempfile
-from typing import Tuple
 
 import pytest
 
@@ -69,9 +68,10 @@ class Night:
 
     def stage(self):
         """What the office does."""
+        office = self.room.office  # which another thread may change
         if self.is_ending:
             return "end"
-        return "lines" if self.room.office and self.room.serves() else "start"
+        return "lines" if office and "desks can send lines" in office.said() else "start"
 
     def look_after_office(self):
         """Starts the office again where it was stopped."""
@@ -142,7 +142,7 @@ class StopOf(Stop):
     the first. Where its number is 0 nothing is stopped. `kinds` has of each call what it is, and `unsynced` what office or witness told
     somebody of an event that was not on their device, or not answered."""
 
-    statuses: Tuple[int, ...] = (-signal.SIGKILL,)
+    may_end = {-signal.SIGKILL}
 
     def __init__(self, who, number):
         super().__init__(number)
@@ -177,7 +177,7 @@ class StopOf(Stop):
 
     def run(self):
         with WatchedRoom(self.before) as room:
-            self.room, self.device, self.night = room.with_witness(), Device(room.path), Night(room, may_end=self.statuses)
+            self.room, self.device, self.night = room.with_witness(), Device(room.path), Night(room, may_end=self.may_end)
             has_its_end(self.night, lambda: f"{self.who} before call {self.number}, {self.call}")
             assert self.unsynced[:1] == [], f"what was sent, and is not on the device, {self.who} before call {self.number}, {self.call}"
             if self.who == "witness":
@@ -204,7 +204,7 @@ class FaultOf(StopOf):
     """A night in which a call of the office fails. Where that is one that writes or syncs a log with events, it writes nothing more to it,
     and ends with 3."""
 
-    statuses = (1, 3)
+    may_end = {1, 3}
 
     def __init__(self, *more):
         super().__init__(*more)
