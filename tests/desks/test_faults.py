@@ -50,26 +50,34 @@ FAULTS = {
     "a sheet without its end": (answers("/^constituency 2/Q"), "zhcount run has ended"),
     "of another desk": (answers("s/^1 stored 4/2 stored 4/"), "zhcount answered desk 1 by '2 stored 4'"),
     "full log": (full_log, "night.db could not be written"),
+    "put in its place at the end": (lambda room: os.replace(room.other_disk("return 3 1 1 90"), room.disk), ANOTHER),
+    "put into the file at the end": (lambda room: shutil.copyfile(room.other_disk(), room.disk), "0 commands, and not all of the log's 3"),
+    "full log at the end": (full_log, "night.db could not be written"),
 }
 
 
 @pytest.mark.parametrize("name", FAULTS)
-def test_no_answer(room, name):
+def test_fault(room, name):
     """a disk that is put in another's place, is removed, has a second name or another length or takes nothing more, a folder that is put
-    aside, and an answer that is none stop the office before anything is shown; the next start that is right answers the line. One that has
-    no room in the log is not given to the program"""
-    (change, text), is_sheet = FAULTS[name], "sheet" in name
-    line = "sheet" if is_sheet else SECOND
+    aside, and an answer that is none stop the office before anything is shown or noted, also at the end; the next start that is right
+    answers the line. One that has no room in the log is not given to the program"""
+    (change, text), is_end, line = FAULTS[name], "at the end" in name, "sheet" if "sheet" in name else SECOND
     desk = room.desk(1).talk(f"{FIRST} -> stored 1", "return 2 1 1 90 -> stored 2", "return 3 1 1 90 -> stored 3")
     shown, own = [*desk.out], shutil.copy(room.disk, room.path / "own.disk")
     change(room)
-    desk.write(f"{line}\n")
-    room.ends(1 if is_sheet else 3, text)
+    if is_end:
+        room.office.kill(signal.SIGTERM)
+    else:
+        desk.write(f"{line}\n")
+    room.ends(1 if line == "sheet" else 3, text)
     assert "every line is answered" not in room.office.said(), f"not said: {room.office.said()}"
     assert desk.out == shown, "what the desk was shown"
     if not room.folder.exists():
         (room.path / "aside").rename(room.folder)
-    if change is full_log:
+    last = room.events()[-1]
+    if is_end:
+        assert last.kind != "ended" or last.facts()["commands"] is None, f"nothing is noted of it: {last}"
+    elif change is full_log:
         assert "1,2,1,300" not in room.zhcount("export"), "the program has not got it"
     else:
         room.office.says(f"unanswered: desk 1: {line}: the next start looks what became of it")
@@ -77,29 +85,9 @@ def test_no_answer(room, name):
     os.replace(own, room.disk)
     room.environment["ZHCOUNT"] = str(PROGRAM)
     room.start()
-    assert re.match("stored 4|1 sheet provisional 3\nhouse(.|\n)*\nend$", desk.answer(line)), "its answer"
+    if not is_end:
+        assert re.match("stored 4|1 sheet provisional 3\nhouse(.|\n)*\nend$", desk.answer(line)), "its answer"
     room.check()
-
-
-@pytest.mark.parametrize("change, text", [
-    (lambda room: os.replace(room.other_disk("return 3 1 1 90"), room.disk), "night.disk is no longer the file"),
-    (lambda room: shutil.copyfile(room.other_disk(), room.disk), "the disk has 0 commands, and not all of the log's 1"),
-    (lambda room: resource.prlimit(room.office.process.pid, resource.RLIMIT_FSIZE, (1000, UNLIMITED)), "night.db could not be written"),
-], ids=["put in its place", "put into the file", "no room in the log"])
-def test_fault_at_the_end(room, change, text):
-    """an office that is told to end looks at the disk, too, and says where it can't note its end: no other export is noted, and not that
-    every line is answered"""
-    assert room.ask(1, FIRST).out == ["stored 1"]
-    own = shutil.copy(room.disk, room.path / "own.disk")
-    change(room)
-    room.office.kill(signal.SIGTERM)
-    room.ends(3, text)
-    assert "every line is answered" not in room.office.said(), f"not said: {room.office.said()}"
-    last = room.events()[-1]
-    assert last.kind != "ended" or last.facts()["commands"] is None, f"nothing is noted of it: {last}"
-    os.replace(own, room.disk)
-    room.start()
-    room.check({1: [FIRST]})
 
 
 def test_strange_path(new_room):
