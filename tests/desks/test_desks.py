@@ -131,7 +131,7 @@ def test_desk_costs_nothing_while_it_waits(room):
         before = ticks()
         time.sleep(3)
         return ticks() <= before + 6
-    until("at most 6 ticks of 10 ms are used in 3 s", is_at_rest)  # a busy machine may let them come to rest late
+    until("at most 6 ticks of 10 ms are used in 3 s", is_at_rest, 9)  # a busy machine may let them come to rest late
 
 
 # The pages

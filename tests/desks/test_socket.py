@@ -47,7 +47,7 @@ def line_of(turn, text):
 
 HELLO = b'{"desk": 3}\n'  # which has sent one line
 NO_LINES = [b"\n", b"garbage\n", b"[1]\n", b"[" * 995 + b"\n", b'{"a":' * 180 + b"\n", b"\0" * 500 + b"\n", b"\xff\xfe\n", b"x" * 1000000,
-            b'{"turn": 2}\n', line_of("true", "show 1 1"), line_of("2.0", "show 1 1"), line_of(3, "show 1 1"), line_of(1, "show 1 1"),
+            b'{"turn": 2}\n', line_of("2.0", "show 1 1"), line_of(3, "show 1 1"), line_of(1, "show 1 1"),
             line_of(0, "show 1 1"), line_of(-1, "show 1 1"), line_of("1e999", "show 1 1"), line_of("9" * 900, "show 1 1"),
             b'{"turn": 2, "line": 5}\n', line_of(2, "show 1 1\\n2 close 1"), line_of(2, "show 1 1\\\\x0a2 close 1"), line_of(2, "\\\\x41"),
             line_of(2, "\\\\x5C"), line_of(2, "\\ud800"), b'{"turn": 2, "line": "\xc3\xa9"}\n', line_of(2, "9" * 122),
@@ -62,7 +62,8 @@ def test_garbage(room):
     room.ask(3, "show 3 3")
     room.restart()
     good = room.desk(1).talk("return 1 1 1 525 -> stored 1")
-    for *hello, data in [*((HELLO, it) for it in NO_LINES), *((it,) for it in NO_DESKS)]:
+    first_lines = [(b'{"desk": 4}\n', line_of(it, "show 1 1")) for it in ("true", "1.0")]
+    for *hello, data in [*((HELLO, it) for it in NO_LINES), *first_lines, *((it,) for it in NO_DESKS)]:
         got, has_ended = at_socket(room, *hello, data)
         is_said = len(data) > 65536 or [*json.loads(got.splitlines()[-1])] == ["refused"]
         assert has_ended and is_said, f"{data[:60]} ends the connection: {got}"
