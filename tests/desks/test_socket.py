@@ -53,7 +53,7 @@ NO_LINES = [b"\n", b"garbage\n", b"[1]\n", b"[" * 995 + b"\n", b'{"a":' * 180 + 
             line_of(2, "\\\\x5C"), line_of(2, "\\ud800"), b'{"turn": 2, "line": "\xc3\xa9"}\n', line_of(2, "9" * 122),
             line_of(2, "\\\\x00" * 122), b'{"desk": 4}\n', line_of(2, "show 1 1") + line_of(3, "show 1 1"), line_of(2, "show 1 1") + b"{"]
 NO_DESKS = [b'{"desk": 0}\n', b'{"desk": 9}\n', b'{"desk": "3"}\n', b'{"desk": true}\n', b'{"desk": 3.0}\n', b"{}\n", b"null\n", b"\0\n",
-            b'{"desk": 1}\n', b"x" * 2000, line_of(2, "show 1 1")]
+            b'{"desk": 2}\n', b"x" * 2000, line_of(2, "show 1 1")]
 
 
 def test_garbage(room):
@@ -61,7 +61,7 @@ def test_garbage(room):
     comes ends that connection alone, is not noted, and the office's own log has each text once"""
     room.ask(3, "show 3 3")
     room.restart()
-    good = room.desk(1).talk("return 1 1 1 525 -> stored 1")
+    good = room.desk(2).talk("return 1 1 1 525 -> stored 1")
     first_lines = [(b'{"desk": 4}\n', line_of(it, "show 1 1")) for it in ("true", "1.0")]
     for *hello, data in [*((HELLO, it) for it in NO_LINES), *first_lines, *((it,) for it in NO_DESKS)]:
         got, has_ended = at_socket(room, *hello, data)
@@ -81,7 +81,7 @@ def test_garbage(room):
     assert room.of_desk(3) == [("show 3 3", "none")], "the lines of desk 3"
     assert room.ask(3, "show 1 1", "show 1 2").out == ["shows 1 525", "none"], "its next ones"
     good.talk("show 1 1 -> shows 1 525").end()
-    room.check({1: ["return 1 1 1 525", "show 1 1"], 3: ["show 3 3", "show 1 1", "show 1 2"]})
+    room.check({2: ["return 1 1 1 525", "show 1 1"], 3: ["show 3 3", "show 1 1", "show 1 2"]})
 
 
 def test_nobody_is_disturbed(room):
