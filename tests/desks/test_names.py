@@ -29,14 +29,10 @@ def test_names():
     with running(QuietRoom(setup=NAMED)) as room:
         talk(room, 1,
              "return 1 2 1 525 -> stored 1", "Dübendorf, Grüne, Linke: 525 votes, version 1",
-             "return 1 2 2 1 -> stored 2", "Dübendorf, Grüne, Linke: 1 vote, version 2",
-             "return 1 2 2 2 -> refused conflict",
-             "withdraw 1 2 3 -> stored 3", "Dübendorf, Grüne, Linke: withdrawn, version 3",
-             "open -> held 0",
-             "row 2 1 1 240 -> held 1", "M, A: 240 votes, version 1",
-             "row 2 1 1 241 -> refused twice",
-             "row 3 3 1 0 -> held 2", "W, C: 0 votes, version 1",
-             "show 1 2 -> shows 3 withdrawn",
+             "return 1 2 2 1 -> stored 2", "Dübendorf, Grüne, Linke: 1 vote, version 2", "return 1 2 2 2 -> refused conflict",
+             "withdraw 1 2 3 -> stored 3", "Dübendorf, Grüne, Linke: withdrawn, version 3", "open -> held 0",
+             "row 2 1 1 240 -> held 1", "M, A: 240 votes, version 1", "row 2 1 1 241 -> refused twice",
+             "row 3 3 1 0 -> held 2", "W, C: 0 votes, version 1", "show 1 2 -> shows 3 withdrawn",
              "commit -> stored 4", "a batch of 2 returns",
              "return 9 1 1 5 -> refused municipality", "close 9 -> refused municipality", "reopen 1 -> refused notclosed 1",
              "drop -> refused nobatch")

@@ -171,39 +171,27 @@ def test_connect_again(room, change, others, shown):
 # One connection a desk
 
 
-def test_second_connection(room):
-    """of two connections with one number the second is refused, and told who has the desk since when, until the first has ended"""
-    first = room.desk(7).talk("show 1 1 -> none")
-    second = room.ask(7, "show 1 1")
-    assert (second.status, second.out) == (1, []), "the second"
-    name = pwd.getpwuid(os.geteuid()).pw_name
-    wanted = rf"desk 7: another connection has this desk: of {name} since \d\d:\d\d:\d\d$"
-    assert re.search(wanted, second.said(), re.M), f"it is said: {second.said()}"
-    first.talk("show 1 2 -> none").kill()
-    assert room.ask(7, "show 1 3").out == ["none"], "the second then"
-    desk = room.desk(8).talk("show 1 1 -> none")
-    desk.process.stdout.close()
-    desk.write("show 1 1\n")
-    assert desk.wait() == 1, "nobody hears it: it ends"
-
-
 CLOCK = """import time as real
 from types import SimpleNamespace
 time = SimpleNamespace(strftime=real.strftime, monotonic=lambda: float(open({!r}).read()))"""
 
 
 @pytest.mark.parametrize("has_typed", [False, True], ids=["idle", "stopped"])
-def test_taken_over(new_room, has_typed):
-    """a desk that was heard of a moment ago is not taken over, however long ago it connected. One whose connection is silent is, at once;
-    the one before ends, and its line is in its place. One that stands still meanwhile gives up the line that it has not sent"""
+def test_second_connection(new_room, has_typed):
+    """of two connections with one number the second is refused, and told who has the desk since when, as long as the first was heard of a
+    moment ago. One that is silent is taken over at once, ends, and its line is in its place; one that stands still meanwhile gives up the
+    line that it has not sent. A desk whose answers nobody reads ends, and another one is let in"""
     room, clock = new_room, new_room.path / "clock"  # by which an office knows how long a desk is silent
     clock.write_text("0")
     room.edit_script("zhcount_connections.py", "^import time$", CLOCK.format(str(clock)))
     room.start()
     first = room.desk(7).talk("return 1 1 1 525 -> stored 1")
+    refusal = rf"desk 7: another connection has this desk: of {pwd.getpwuid(os.geteuid()).pw_name} since \d\d:\d\d:\d\d$"
     for seconds in (10, 20, 30):
         clock.write_text(str(seconds))
-        assert "another connection has this desk" in room.ask(7).said(), f"another one is refused after {seconds} seconds"
+        second = room.ask(7, "show 1 1")
+        assert (second.status, second.out) == (1, []), f"another one is refused after {seconds} seconds"
+        assert re.search(refusal, second.said(), re.M), f"it is said: {second.said()}"
         first.talk("show 1 1 -> shows 1 525")
     if has_typed:
         stand_still(first.process.pid)  # so that it finds both, the line and what the office says
@@ -214,8 +202,12 @@ def test_taken_over(new_room, has_typed):
     first.kill(signal.SIGCONT)
     assert first.wait() == 1, "the end of the first"
     assert re.search(r"desk 7: \w+ has taken this desk over", first.said()), f"it says why: {first.said()}"
-    second.talk("show 1 1 -> shows 2 530").end()
-    room.check({7: ["return 1 1 1 525", *["show 1 1"] * 3, "return 1 1 2 530", "show 1 1"]})
+    second.process.stdout.close()
+    second.write("show 1 1\n")
+    assert second.wait() == 1, "nobody hears it: it ends"
+    assert room.ask(7, "show 1 1").out == ["shows 2 530"], "another one then"
+    assert [it for it, _ in room.of_desk(7)][:5] == ["return 1 1 1 525", *["show 1 1"] * 3, "return 1 1 2 530"], "its lines"
+    room.check()
 
 
 # Streams
