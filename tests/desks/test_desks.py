@@ -57,7 +57,8 @@ def test_endless_line(room):
 
 
 def test_sheet(room):
-    """a sheet is shown whole, with its desk, also to a desk that the office answers after a stop; a new connection says its first line"""
+    """a sheet is shown whole, with its desk, also to a desk that the office answers after a stop; a new connection says its first line.
+    What the group may open is not locked"""
     lines = ["return 1 1 1 525", "return 2 1 1 240", "return 3 1 1 90"]
     room.ask(1, *lines)
     wanted = room.zhcount("run", disk=room.other_disk(*lines), given="3 sheet\n")
@@ -65,6 +66,9 @@ def test_sheet(room):
     assert desk.send("sheet") + "\n" == wanted, "the sheet"
     whole = wanted[2:-1].encode()
     assert room.of_desk(3) == [("sheet", f"sheet provisional 3 {len(whole)} {hashlib.sha256(whole).hexdigest()}")], "what is noted"
+    locked = re.findall(r":(\d+) \d+ \S+$", pathlib.Path("/proc/locks").read_text(), re.MULTILINE)
+    open_to_group = [it for it in room.folder.iterdir() if it.lstat().st_mode & 0o070]
+    assert [it for it in open_to_group if str(it.lstat().st_ino) in locked] == [], "what the group could lock is never locked"
     room.stops_at(desk, "sheet")
     room.start()
     assert desk.answer("sheet") + "\n" == wanted, "the sheet after a stop"

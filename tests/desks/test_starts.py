@@ -1,7 +1,5 @@
 """What a start decides: what became of the line without an answer, and whether the disk is that of the log; and that it gives the rows of
 open batches again, which live in the memory of run. Each case is made by stops at chosen moments, and by hand."""
-import signal
-
 import pytest
 
 from places import PROGRAM
@@ -55,15 +53,18 @@ def test_line_without_an_answer(room, line, fate, by_hand, answer):
 
 @pytest.mark.parametrize("is_stored", [True, False], ids=["outlived", "lost"])
 def test_told_what_became_of_it(room, is_stored):
-    """the line is answered before any other desk, and once, however often the office ends; a new connection is told what became of it, and
-    what another desk has done then stays"""
+    """the line is answered before any desk is let in, and once, also where the office ends then; a new connection is told what became of
+    it, and what another desk has done stays"""
     room.stops_at(room.desk(1).talk(*BEFORE), "close 1", is_stored).kill()
-    desk = room.desk(1)
-    for _ in range(2):
-        room.start(is_awaited=False)
-        until("the line is answered", lambda: room.of_desk(1)[-1][1] or room.office.has_ended())
-        room.stop(signal.SIGKILL)
-    room.start()
+    desk, flag = room.desk(1), room.path / "flag"
+    flag.touch()
+    room.stands_in(f"[ $1 = run ] && while [ -e '{flag}' ]; do sleep 0.02; done")
+    room.start(is_awaited=False)
+    until("run is started", lambda: room.child("run"))
+    assert not desk.is_let_in(), "nobody is let in"
+    flag.unlink()
+    until("the line is answered", lambda: room.of_desk(1)[-1][1] or room.office.has_ended())
+    room.restart()
     assert room.ask(2, "reopen 1", "show 3 1").out == ["stored 5", "none"], "the other"
     desk.says("before: close 1: stored 4", OPEN.format(2))
     desk.talk("drop -> dropped 2")
