@@ -115,7 +115,6 @@ class Room:
         return "desks can send lines" in self.office.said()
 
     def await_start(self):
-        """Waits until the office serves, or has ended."""
         until(lambda: f"the office serves, or ends: {self.office.said()}", lambda: self.serves() or self.office.has_ended())
 
     def refuses(self, *texts, status=3):
@@ -156,7 +155,6 @@ class Room:
         return 0
 
     def run_of_office(self):
-        """The process of zhcount run below the office."""
         return until("a run", lambda: self.child("run"))
 
     def zhcount_office(self, *words, status=0):

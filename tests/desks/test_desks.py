@@ -12,9 +12,6 @@ from processes import stays, until
 from room import SCRIPTS
 
 
-# A line
-
-
 def test_torn_line(room):
     """a line without its end is not sent, and that is said"""
     desk = room.desk(6)
@@ -77,9 +74,6 @@ def test_sheet(room):
     room.check({3: ["sheet", "sheet"]})
 
 
-# Stops
-
-
 def test_run_is_killed(room):
     """kill -9 of run: the office ends, which it notes with the reason, and a new one goes on"""
     desk = room.desk(1).talk("return 1 1 1 525 -> stored 1")
@@ -138,22 +132,11 @@ def test_desk_costs_nothing_while_it_waits(room):
     until("at most 6 ticks of 10 ms are used in 3 s", is_at_rest, 9)  # a busy machine may let them come to rest late
 
 
-# The pages
-
-
-def texts():
-    """What a desk shows beside answers, and what it says of a table: the pieces of each text that the scripts have."""
-    for script in ("zhcount-desk", "zhcount_tables.py"):
-        source = (SCRIPTS / script).read_text().partition("\ndef text_of")[0]
-        for it in ast.walk(ast.parse(re.sub('""".*?"""', '""', source, flags=re.S))):
-            if isinstance(it, ast.Constant) and re.search(r"[a-z]+ [a-z]+", str(it.value)):
-                yield it.value.strip()
-
-
 def test_manual_has_each_text():
-    """MANUAL says what to do about each text that a desk shows"""
-    page = (TOP / "docs/MANUAL.md").read_text()
-    rows = "".join(line.split(" | ")[0] + "\n" for line in page.split("\n") if line.startswith("| `"))
-    found = sorted(texts())
+    """MANUAL says what to do about each text that a desk shows beside answers, and says of a table"""
+    source = "".join((SCRIPTS / it).read_text().partition("\ndef text_of")[0] for it in ("zhcount-desk", "zhcount_tables.py"))
+    pieces = [it.value for it in ast.walk(ast.parse(re.sub('""".*?"""', '""', source, flags=re.S))) if isinstance(it, ast.Constant)]
+    found = sorted({it.strip() for it in map(str, pieces) if re.search(r"[a-z]+ [a-z]+", it)})
     assert len(found) > 30, f"texts are found: {found}"
+    rows = "\n".join(re.findall(r"^\| (`.*?) \| ", (TOP / "docs/MANUAL.md").read_text(), re.M))
     assert [it for it in found if it not in rows and it.split(";")[0] not in rows] == [], "texts without a row"

@@ -140,17 +140,9 @@ BEFORE = ["return 1 1 1 525 -> stored 1", "return 1 2 1 300 -> stored 2", "close
 LINE = "return 3 1 1 90"  # which a stop leaves without an answer
 
 
-def mode(bits):
-    return lambda room: room.folder.chmod(bits)
-
-
 def program(task, does):
     """A program that does something else for a task."""
     return lambda room: room.stands_in(f"[ $1 = {task} ] && {{ {does}; exit; }}")
-
-
-def disk(lines):
-    return lambda room: os.replace(room.other_disk(*lines), room.disk)
 
 
 def log(statement):
@@ -166,7 +158,8 @@ DISKS = {"fewer": ["return 1 1 1 525", "return 1 2 1 300"], "other returns": ["r
          "a return is missing": ["return 1 1 1 525", "return 3 2 1 300", "close 2", "return 3 3 1 5"],
          "a return is another": ["return 1 1 1 520", "return 1 2 1 300", "close 2", "return 3 3 1 5"]}
 REFUSED = {
-    **{name: (disk(lines), f"the disk has {len(lines)} commands, and not all of the log's 3") for name, lines in DISKS.items()},
+    **{name: (lambda room, lines=lines: os.replace(room.other_disk(*lines), room.disk),
+              f"the disk has {len(lines)} commands, and not all of the log's 3") for name, lines in DISKS.items()},
     "no disk": (lambda room: room.disk.unlink(), "zhcount: disk device"),
     "a disk that fails": (lambda room: room.edits_answers("s/held 1/refused device/"),
                           "the disk has failed: refused device. Copy it before anything else"),
@@ -189,9 +182,9 @@ REFUSED = {
     "half of a log": (lambda room: (room.folder / "night.db").unlink(), "{0.folder} has no night.db"),
     "an older folder": (lambda room: (room.folder / "protocol").touch(),
                         "{0.folder} has the transcripts of an older zhcount: end that count with the scripts that it was begun with"),
-    "others may read": (mode(0o2755), "others may use {0.folder}: 'chmod 2750 {0.folder}' makes it right"),
-    "others may write": (mode(0o2752), "others may use {0.folder}"),
-    "the group may write": (mode(0o2770), "others may use {0.folder}"),
+    "others may read": (lambda room: room.folder.chmod(0o2755), "others may use {0.folder}: 'chmod 2750 {0.folder}' makes it right"),
+    "others may write": (lambda room: room.folder.chmod(0o2752), "others may use {0.folder}"),
+    "the group may write": (lambda room: room.folder.chmod(0o2770), "others may use {0.folder}"),
     "another user's": (lambda room: os.chown(room.folder, 65534, 65534),
                        "belongs to nobody, and root runs the office: run it as nobody, or, as root, 'chown -R root {0.folder}'"),
 }

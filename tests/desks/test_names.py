@@ -75,9 +75,6 @@ def test_answer_after_a_stop(room):
     assert [it for it in said(desk) if "office" not in it] == ["W, A: 90 votes, version 1", warning, warning, "W: closed"], "what is said"
 
 
-# What speaks against it
-
-
 def test_close(room):
     """before a municipality is closed the desk says what is missing, or not confirmed, there alone; once all is, nothing. A municipality
     that is closed or opened again is named"""
@@ -115,9 +112,6 @@ def test_many_municipalities():
         talk(room, 1, "municipality 12, N12: 1 of 1 returns missing",
              *(f"municipality {it}, N{it}: 1 entered by one desk alone" for it in range(1, 9)),
              "5 more municipalities: `now` has them all", "final -> refused notclosed 1")
-
-
-# Totals
 
 
 def closed(room):

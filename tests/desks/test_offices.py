@@ -64,9 +64,6 @@ def test_arguments(words, tmp_path):
     assert (ran.returncode, os.listdir(tmp_path)) == (2, []), f"the status of {words}: {ran.stderr}"
 
 
-# Signals
-
-
 def test_told_to_end(room):
     """TERM ends the office after the line at work, and a second one at once, with what is unanswered"""
     desks = {number: room.desk(number).talk("show 1 1 -> none") for number in (1, 2)}
@@ -105,9 +102,6 @@ def test_told_again_at_the_end(new_room):
     assert office.wait() == 0, f"the status: {office.said()}"
 
 
-# What it is started with
-
-
 @pytest.mark.parametrize("before", ["umask 077", "umask 000", "trap '' HUP", "exec 2> /dev/full", "exec 2>&-", "exec <&- >&- 2>&-",
                                     "exec 2> {}"])
 def test_started_after(new_room, before):
@@ -132,9 +126,6 @@ def test_started_after(new_room, before):
     assert room.stop() == 0, f"the end after {before}"
     for it in pipe:
         os.close(it)
-
-
-# The scripts, and the unit
 
 
 def test_python_of_the_scripts():

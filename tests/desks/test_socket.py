@@ -135,9 +135,6 @@ def test_long_path(new_room):
     new_room.check()
 
 
-# Another log
-
-
 @pytest.mark.parametrize("change, others, shown", [("another log", 2, "none"), ("older copy", 0, "none"), ("other lines", 1, "shows 1 90")])
 def test_connect_again(room, change, others, shown):
     """a desk that waits for an answer, or for a line, ends when its office has another log, though with as many lines, an older copy of it,
@@ -166,9 +163,6 @@ def test_connect_again(room, change, others, shown):
     desk.says("without an answer: return 3 1 1 90")
     assert desk.out == ["none", "none"], "what it shows"
     assert room.ask(3, "show 3 1").out == [shown], "connected again"
-
-
-# One connection a desk
 
 
 CLOCK = """import time as real
@@ -208,9 +202,6 @@ def test_second_connection(new_room, has_typed):
     assert room.ask(7, "show 1 1").out == ["shows 2 530"], "another one then"
     assert [it for it, _ in room.of_desk(7)][:5] == ["return 1 1 1 525", *["show 1 1"] * 3, "return 1 1 2 530"], "its lines"
     room.check()
-
-
-# Streams
 
 
 def test_closed_streams(room):

@@ -75,9 +75,6 @@ def test_told_what_became_of_it(room, is_stored):
     room.check()
 
 
-# Open batches
-
-
 def test_batches_are_given_again(room):
     """rows of open batches are given again, before any desk, without a record, also after a refused commit, and a new connection is told of
     them; those of a committed or dropped one are not"""
