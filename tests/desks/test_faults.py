@@ -69,7 +69,8 @@ def test_fault(room, name):
         room.office.kill(signal.SIGTERM)
     else:
         desk.write(f"{line}\n")
-    room.ends(1 if line == "sheet" else 3, text)
+    room.office.says(text)
+    room.ends(1 if line == "sheet" else 3)
     assert "every line is answered" not in room.office.said(), f"not said: {room.office.said()}"
     assert desk.out == shown, "what the desk was shown"
     if not room.folder.exists():
