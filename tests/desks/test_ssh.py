@@ -15,7 +15,7 @@ import time
 import pytest
 
 from processes import SECONDS, Desk, until
-from room import Room, let_in, running
+from room import Room, running
 from witnessed import Entering, Witnessed
 
 LINES = int(os.environ.get("LINES", "500"))
@@ -101,8 +101,9 @@ def test_side_by_side(room):
 
 
 def connects(entering, number):
-    entering.desks[number] = let_in(entering.room, number)
-    return entering.desks[number].is_let_in()
+    desk = entering.desks[number] = entering.room.desk(number)
+    until(lambda: f"desk {number} is let in: {desk.said()}", lambda: desk.is_let_in() or desk.has_ended())
+    return desk.is_let_in()
 
 
 def test_a_key_is_a_desk(room):
