@@ -1,5 +1,6 @@
 """tests/edits on a small tree of its own, tests/edited/small: of a wrong body of each kind it says what it is, and it tries the crates that
 changed."""
+import re
 import shutil
 import subprocess
 
@@ -39,7 +40,7 @@ class Small:
 
     def __init__(self, top, edits=(), of=TOP / "tests/edited/small"):
         # rt takes no source that no crate of this repository lists: there each file's name ends in .small.
-        self.top = shutil.copytree(of, top, copy_function=lambda here, there: shutil.copy(here, there.removesuffix(".small")))
+        self.top = shutil.copytree(of, top, copy_function=lambda here, there: shutil.copy(here, re.sub(r"\.small$", "", there)))
         self.low = "crates/zh_low/src/lib.rt"
         self.put(edits)
 

@@ -38,8 +38,10 @@ def test_holds(rule):
 @pytest.mark.plants
 @each_rule
 def test_sees(rule, copy):
-    files = {changed(copy, *it) for it in rule.changes}
+    files = set()
     try:
+        for it in rule.changes:
+            files.add(changed(copy, *it))
         faults = list(rule.faults(Tree(copy)))
     finally:
         for it in files:

@@ -57,7 +57,7 @@ class Part(namedtuple("Part", "name folder whole fault forms marks")):
         return found
 
     def sum(self):
-        """Of what a mistake is seen by: the scripts, their tests, and what all tests share."""
+        """A sum of the files that a mistake is seen by: the scripts, their tests, and what all tests share."""
         folders = [(TOP / self.folder).parent if self.name == "page" else TOP / self.folder, TOP / "tests" / self.name]
         found = [it for folder in folders for it in folder.rglob("*") if it.is_file() and not UNREAD & {it.suffix, *it.parts}]
         files = sorted([*found, TOP / "tests/test_plants.py", TOP / "tests/conftest.py"])

@@ -1,5 +1,6 @@
 """What the office answers to whatever is typed, by docs/MANUAL.md: in the rehearsal's count, of three municipalities in each of which three
 lists stand, or in that of another canton."""
+import collections
 import re
 import types
 
@@ -81,8 +82,10 @@ def random_line(chance, count):
 
 def counted(found, canton=REHEARSAL):
     """What is held after the events of a log, each answer of which has to be that of the manual."""
-    count, lines = Count(canton), {}
+    count, lines, turns = Count(canton), {}, collections.Counter()
     for it in found:
+        turns[it.desk] += it.kind == "line"
+        assert it.turn == turns[it.desk], f"the turn of {it}"
         if it.kind == "line":
             assert lines == {}, "a line that waits beside"
             lines[it.desk] = it.text

@@ -54,7 +54,7 @@ class QuickRoom(Room):
         return late
 
     def child(self, word="-B"):
-        """The process that writes what follows from a copy, of all below the office the one with this flag; 0 where there is none."""
+        """The child process that writes the files of a copy, found by its flag -B; 0 if there is none."""
         return super().child(word)
 
     def working(self):

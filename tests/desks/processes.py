@@ -79,7 +79,7 @@ class Process:
             until(lambda: f"'{text}' is said: {self.said()}", lambda: text in self.said())
 
     def kill(self, number=signal.SIGKILL):
-        """Sends it a signal; by this one it has ended then."""
+        """Sends it a signal. After SIGKILL it waits for the end."""
         self.process.send_signal(number)
         if number == signal.SIGKILL:
             self.process.wait()

@@ -102,6 +102,7 @@ def test_waits_for_an_office(new_room):
     room.office.kill(signal.SIGCONT)
     assert desk.answer() == "shows 1 525"
     assert desk.said().count("no answer yet to show 1 1") == 1, "how often it was said"
+    assert "has ended" not in desk.said(), "an office that stands still has not ended"
     room.office.kill(signal.SIGSTOP)
     desk.write("close 2\n")
     desk.says("no answer yet to close 2: waiting")

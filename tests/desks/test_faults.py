@@ -218,12 +218,15 @@ def test_refused(room, name):
 
 
 def test_no_log(new_room):
-    """a night.db that is no SQLite file is refused, and left as it is"""
+    """a night.db that is no SQLite file is refused, and left as it is, as is the folder of an older zhcount"""
     new_room.folder.mkdir(mode=0o750)
     path, data = new_room.folder / "night.db", b"something else" * 1000
     path.write_bytes(data)
     new_room.refuses("night.db")
     assert ([*new_room.folder.iterdir()], path.read_bytes()) == ([path], data), "it is left"
+    older = path.rename(new_room.folder / "protocol")
+    new_room.refuses(f"{new_room.folder} has the transcripts of an older zhcount")
+    assert [*new_room.folder.iterdir()] == [older], "nothing is put into it"
 
 
 def test_used_disk(new_room):
@@ -247,7 +250,7 @@ def test_used_disk(new_room):
     assert new_room.rebuilt() == new_room.zhcount("export"), "the export is that of the disk made anew"
 
 
-def test_commands_beside(room):
+def test_commands_by_hand_meanwhile(room):
     """what another program stores while the office starts is in what it compares: the copy is of the time when `run` has the disk. A load
     that gets the disk as the office ends is not in what the end notes: the next start notes it, and a rebuild goes"""
     flag, held, table = (room.path / it for it in ("flag", "held", "beside.csv"))

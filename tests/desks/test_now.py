@@ -6,6 +6,7 @@ import subprocess
 
 import pytest
 
+from canton import Canton, Chance
 from logs import Written
 from now import CLOSINGS, NEVER, RETURNS, UNCONFIRMED, QuickRoom, compare, compare_folder, link_of, model, names_of_now
 from places import PROGRAM, REHEARSAL, TOP
@@ -161,6 +162,18 @@ def has_bundle(room, lines, line):
     assert (folder / "../seats").read_text() == files["seats"], "the seats"
     words = ["--setup", folder / "setup.toml", "--sheet", folder / "sheet.txt", "--held", folder / "held.csv"]
     assert b"\nsheet ok" in subprocess.run([PROGRAM, "check", *words], stdout=subprocess.PIPE, check=True).stdout, "it is right"
+
+
+def test_a_cantons_bundle():
+    """a bundle has the tables and the sheet of a canton too, where some lists stand in some constituencies alone"""
+    canton = Canton(Chance(86))
+    sent = [f"return {municipality} {group} 1 {votes}" for (municipality, group), votes in canton.votes.items() if group % 2]
+    with running(QuickRoom(setup=canton.setup())) as room:
+        desk = room.desk(1)
+        desk.write("".join(f"{line}\n" for line in sent))
+        until("all is answered", lambda: len(desk.out) == len(sent))
+        has_bundle(room, sent, "sheet")
+        room.stop()
 
 
 def test_page_and_modes(new_room):

@@ -155,6 +155,7 @@ def odd():
         ("a batch of one row by desk 0", "08000001" + held_row),
         ("a batch of no rows", "08010000"),
         ("a return by desk 9", "0609" + held_row),
+        ("a batch by desk 9", "08090001" + held_row),
         ("a record of no kind", "00"),
         ("a gap", held, "0601000101000000030000000a"),
         ("too many votes", "060100010100000001" + "3b9aca01"),
@@ -172,6 +173,8 @@ def odd():
     yield "the last generation", put(last, PLACES["slot1.generation"], b"\xff" * 8)
     yield "a greater generation under a closed gate", put(last, PLACES["slot2"], b"\xa4" + b"\xff" * 8)
     yield "a desk in format 1", put(put(last, FORMAT_BYTE, b"\0"), FORMAT_BYTE + 175, bytes.fromhex("010100000000000100000005"))
+    elsewhere = disks.journal_of([bytes.fromhex("060100b4090000000100000007")])  # municipality 180, list 9
+    yield "a row of a list that stands elsewhere", put(fresh(CANTON), PLACES["journal1"], elsewhere)
     yield "both gates closed", put(last, PLACES["slot1"], b"\xa4")
     yield "the disk's gate closed", put(last, 0, b"\xa4")
 

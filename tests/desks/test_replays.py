@@ -35,10 +35,11 @@ def test_the_same(written):
 
 def test_a_difference(written):
     """another answer, line, sheet, or state at a start or an end is seen, and its place is said, although each sum follows"""
+    shown = next(it.number for it in written.log.events if it.text == "shows 1 525")
     for kind, within, old, new, wanted in [
             ("answer", "stored 6", "6", "9", "return 2 2 1 330: noted is 'stored 9', and here 'stored 6'"),
             ("answer", "stored 4", "stored 4", "stored 5", "withdraw 3 1 2: noted is 'stored 5', and here 'stored 4'"),
-            ("answer", "shows", "shows 1 525", "none", "desk 3: show 1 1: noted is 'none', and here 'shows 1 525'"),
+            ("answer", "shows", "shows 1 525", "none", f"not the same: event {shown}, desk 3: show 1 1: noted is 'none', and here"),
             ("answer", "sheet", "sheet provisional 3 ", "sheet provisional 3 1", "sheet: noted is 'sheet provisional 3 1"),
             ("line", "return 1 1 1 525", "525", "526", "sheet: noted is 'sheet provisional 3 "),
             ("line", "return 2 2 1 330", "330", "331", ", ended: export: noted is '"),
@@ -62,11 +63,12 @@ def test_another_program(written):
 
 def test_passed_over(night):
     """a line that was refused for want of memory changed nothing; a batch that a start dropped has no rows"""
-    night.begin(["1 return 9 1 1 5", "1 return 1 1 1 525", "1 open", "1 row 2 1 1 240"])
+    night.begin(["1 return 1 1 1 525", "1 open", "1 row 2 1 1 240"])
     night.edits_answers("s/held 1/refused memory/")
     night.begin(["1 commit", "1 return 2 1 1 241"])
     night.environment["ZHCOUNT"] = str(PROGRAM)
-    night.log = night.log.edited("answer", "refused municipality", "municipality", "memory")
+    night.log.add("line", "return 3 1 1 5", 1, 9)
+    night.log.add("answer", "refused memory", 1, 9)
     assert night.made()[1].split()[1:] == ["1,1,1,525", "2,1,1,241"], "what is held"
     assert "the same: " in night.replay(), "a replay"
 

@@ -52,6 +52,7 @@ NO_LINES = [b"\n", b"garbage\n", b"[1]\n", b"[" * 995 + b"\n", b'{"a":' * 180 + 
             b'{"turn": 2, "line": 5}\n', line_of(2, "show 1 1\\n2 close 1"), line_of(2, "show 1 1\\\\x0a2 close 1"), line_of(2, "\\\\x41"),
             line_of(2, "\\\\x5C"), line_of(2, "\\ud800"), b'{"turn": 2, "line": "\xc3\xa9"}\n', line_of(2, "9" * 122),
             line_of(2, "\\\\x00" * 122), b'{"desk": 4}\n', line_of(2, "show 1 1") + line_of(3, "show 1 1"), line_of(2, "show 1 1") + b"{"]
+GREETING = {"log", "start", "turn", "line", "answer", "news", "rows", "batch", "closed", "witness"}
 NO_DESKS = [b'{"desk": 0}\n', b'{"desk": 9}\n', b'{"desk": "3"}\n', b'{"desk": true}\n', b'{"desk": 3.0}\n', b"{}\n", b"null\n", b"\0\n",
             b'{"desk": 2}\n', b"x" * 2000, line_of(2, "show 1 1")]
 
@@ -67,6 +68,7 @@ def test_garbage(room):
         got, has_ended = at_socket(room, *hello, data)
         is_said = len(data) > 65536 or [*json.loads(got.splitlines()[-1])] == ["refused"]
         assert has_ended and is_said, f"{data[:60]} ends the connection: {got}"
+        assert not hello or {*json.loads(got.splitlines()[0])} == GREETING, f"a greeting comes first: {got}"
     chance = random.Random(86)
     for _ in range(100):
         data = bytearray(HELLO + line_of(2, "show 1 1") + line_of(3, "row 1 1 1 1"))
@@ -133,6 +135,19 @@ def test_long_path(new_room):
     new_room.restart()
     desk.talk("show 1 2 -> none").end()
     new_room.check()
+
+
+def test_line_that_was_not_sent(room):
+    """a desk gives up a line that it has not sent where another connection has its turn: that one's answer is not shown"""
+    desk = room.desk(3).talk("show 1 1 -> none")
+    stand_still(desk.process.pid)
+    desk.write("close 1\n")
+    room.restart()
+    assert room.ask(3, "return 3 1 1 90").out == ["stored 1"]
+    desk.kill(signal.SIGCONT)
+    until("it ends, or shows an answer", lambda: desk.has_ended() or len(desk.out) > 1)
+    assert desk.out == ["none"], "what the first one shows"
+    assert desk.wait() == 1, "its end"
 
 
 @pytest.mark.parametrize("change, others, shown", [("another log", 2, "none"), ("older copy", 0, "none"), ("other lines", 1, "shows 1 90")])

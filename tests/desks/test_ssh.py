@@ -16,7 +16,7 @@ import pytest
 
 from processes import SECONDS, Desk, until
 from room import Room, running
-from witnessed import Entering, Witnessed
+from witnessed import BusyDesks, Witnessed
 
 LINES = int(os.environ.get("LINES", "500"))
 LOSSES = int(os.environ.get("LOSSES", "50"))
@@ -80,7 +80,7 @@ ROOM = SshRoom
 
 def test_side_by_side(room):
     """eight desks over ssh, two connections cut in the middle of a line, the office killed twice"""
-    entering = Entering(room, 1)
+    entering = BusyDesks(room, 1)
     entering.enter(4 * LINES)
     entering.until_shown(2 * LINES)
     room.restart()
@@ -169,7 +169,7 @@ def test_machine_is_lost(new_room):
     """whatever desks were shown holds at a witness by ssh, whenever the office's machine was lost; the night goes on there"""
     def night(seed):
         with running(reaching(Witnessed("--witness-required", on_device=True), new_room, f"witness{seed}")) as room:
-            entering = Entering(room, seed)
+            entering = BusyDesks(room, seed)
             entering.enter(200)
             entering.until_shown(entering.chance.randint(1, 100))
             time.sleep(entering.chance.random() / 50)

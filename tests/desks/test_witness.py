@@ -11,7 +11,7 @@ import pytest
 from logs import check_chain, events
 from processes import stays, until
 from room import running
-from witnessed import Entering, Witnessed
+from witnessed import BusyDesks, Witnessed
 
 ROOM = Witnessed
 
@@ -67,16 +67,22 @@ def test_waits_for_it():
         until("it is away", lambda: room.said_of_it().startswith(waiting))
         room.note(desk, "return 1 1 3 540")
         until("it is on the disk", lambda: room.events()[-1].text == "stored 3")
+        room.away.unlink()
+        assert desk.answer() == "stored 3"
+        room.lose_witness()
+        until("it is away again", lambda: room.said_of_it().startswith(waiting))
+        room.note(desk, "return 1 1 4 550")
+        until("it is on the disk too", lambda: room.events()[-1].text == "stored 4")
         assert room.stop() == 0
-        room.office.says("unanswered: desk 1: return 1 1 3 540: the next start looks")
-        assert desk.out == ["stored 1", "stored 2"], "what desk 1 was shown"
+        room.office.says("unanswered: desk 1: return 1 1 4 550: the next start looks")
+        assert desk.out == ["stored 1", "stored 2", "stored 3"], "what desk 1 was shown"
         room.start(is_awaited=False).says(waiting)
         late = room.desk(2)
         stays("no desk is let in", lambda: not late.is_let_in() and not room.serves(), 2)
         assert room.stop() == 0, "the end of an office that waits"
         room.start(is_awaited=False)
         room.away.unlink()
-        assert desk.answer() == "stored 3"
+        assert desk.answer() == "stored 4"
         room.check()
 
 
@@ -128,7 +134,7 @@ def test_no_such_command(new_room, words, why):
 def test_either_is_lost():
     """the witness's machine is lost among lines of eight desks, and comes back empty; then the office's is lost"""
     with running(Witnessed(on_device=True)) as room:
-        entering = Entering(room, 1)
+        entering = BusyDesks(room, 1)
         entering.enter(200)
         entering.until_shown(100)
         room.lose_witness()

@@ -81,7 +81,7 @@ def test_nothing_is_shown_that_it_has_not_written():
 
 
 @pytest.mark.xdist_group("times")
-def test_much():
+def test_witness_that_lacks_much():
     """a start waits for a witness that lacks much, which gets it in messages of at most 64 KB, and is there as long as it takes in one
     after the other"""
     for _ in range(3):  # on a busy machine one message alone may take longer than a witness may be silent

@@ -92,7 +92,7 @@ class Witnessed(Room):
         return said
 
 
-class Entering:
+class BusyDesks:
     """Eight desks of a room at which many lines by chance are typed at once."""
 
     def __init__(self, room, seed):
@@ -101,7 +101,7 @@ class Entering:
         self.lines = {number: [] for number in self.desks}
 
     def enter(self, size):
-        """Types so many lines, which mostly make sense one after the other, but for some whose answer is long."""
+        """Types at most so many lines. `sheet` and `final` are left out, since their answers are long."""
         for _ in range(size):
             number, line = self.chance.randint(1, 8), random_line(self.chance, self.count)
             if line not in ("sheet", "final"):

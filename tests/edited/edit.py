@@ -48,9 +48,15 @@ class Edit:
         """The file, the old text and the new one of each change."""
         last, found = {"file": "", "old": ""}, []
         for key, text in re.findall(r"(?m)^(file|old|new): ?(.*)", self.text):
+            if key == "new" and not (last["file"] and last["old"]):
+                raise NoLongerApplies("a 'new:' stands before any 'file:' or 'old:'")
             if key == "new":
                 found.append((last["file"].strip(), last["old"], text))
-            last[key] = text
+                last["old"] = ""
+            else:
+                last[key] = text
+        if not found:
+            raise NoLongerApplies("it has no 'old:' and 'new:'")
         return found
 
     def applied(self, texts):

@@ -130,4 +130,7 @@ def free_memory():
 
 
 def numbers_in(path):
-    return [int(it) for it in Path(path).read_text().split() if it.isdigit()] if os.path.exists(path) else []
+    try:
+        return [int(it) for it in Path(path).read_text().split() if it.isdigit()]
+    except OSError:
+        return []

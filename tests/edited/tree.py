@@ -67,7 +67,7 @@ class Tree:
     def files(self, crate, *parts):
         """The files of these parts of a crate, by their paths in it."""
         paths = [it for part in parts for it in sorted((self.folder(crate) / part).rglob("*")) if it.is_file()]
-        return [(str(it.relative_to(self.folder(crate))), it.read_text(encoding="utf-8", errors="replace")) for it in paths]
+        return [(str(it.relative_to(self.folder(crate))), it.read_bytes().decode(errors="backslashreplace")) for it in paths]
 
     def without_comments(self, crate, *parts):
         return [(path, COMMENT.sub("", text)) for path, text in self.files(crate, *parts)]
@@ -123,7 +123,10 @@ class Tree:
 
     def commits(self):
         """How many there are, none where there is no history."""
-        counted = subprocess.run(["git", "rev-list", "--count", "HEAD"], cwd=self.top, capture_output=True, text=True)
+        try:
+            counted = subprocess.run(["git", "rev-list", "--count", "HEAD"], cwd=self.top, capture_output=True, text=True)
+        except OSError:
+            return 0
         return int(counted.stdout or 0)
 
     def in_turn(self):

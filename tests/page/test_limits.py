@@ -90,8 +90,8 @@ class Limits(Case):
         self.assertEqual(sums, [hashlib.sha256(bytes(i % 251 for i in range(length))).hexdigest() for length in lengths])
 
     def is_quick(self, *given):
-        """These files, (name, content) each, take a time in the order of their length, less than a second where the machine is free: it is
-        the first that is below the limit, or the shortest of some."""
+        """Opening these files, (name, content) each, takes a time in proportion to their length, less than a second on a free machine. The
+        first time below the limit counts, else the shortest."""
         self.assertLess(self.page.run("""
             const [given, limit, yardstick, times] = arguments;
             const bytes = (it) => (typeof it === 'string' ? new TextEncoder().encode(it) : Uint8Array.from(it));

@@ -99,13 +99,18 @@ def lost_links(folder, patterns=("**/*.md", "**/*.html")):
             target, _, anchor = link.partition("#")
             path = Path(os.path.normpath(page.parent / target)) if target else page
             is_there = path.exists() and folder in path.parents
-            if not is_there or anchor and anchor not in anchors_of(path.read_text(encoding="utf-8")):
+            has_anchors = is_there and path.suffix in (".md", ".html")
+            if not is_there or anchor and not (has_anchors and anchor in anchors_of(path.read_text(encoding="utf-8"))):
                 yield f"{page.relative_to(folder)}:{line}: {link} leads nowhere"
 
 
 def layers(tree):
-    """Where ARCHITECTURE has not the layers of crates.txt, or says of a crate what its root file does not begin with."""
-    said = {}
+    """Where crates.txt lists a crate before one that it stands on, and where ARCHITECTURE has not its layers, or says of a crate what its
+    root file does not begin with."""
+    said, before = {}, set()
+    for crate, below in tree.named.items():
+        yield from (f"crates.txt lists {crate} before {it}, on which it stands" for it in below if it in tree.named and it not in before)
+        before.add(crate)
     for section in sections_of(tree.read(ARCHITECTURE)):
         rows = [(line, *row.values()) for line, row in rows_of(section) if re.match("`zh", [*row.values()][0])]
         for line, crate, sentence, *_ in ((line, crate.strip("`"), *others) for line, crate, *others in rows):

@@ -125,7 +125,7 @@ def test_a_disk_that_is_made_is_for_its_owner_alone(room: Room) -> None:
 
 
 def test_no_permission_for_a_file_or_its_folder(room: Room) -> None:
-    """Without the rights of root, who takes another user for it."""
+    """Without the rights of root: root runs it as another user."""
     as_other = ["setpriv", "--reuid=65534", "--regid=65534", "--clear-groups"] if os.getuid() == 0 else []
     if as_other and (not shutil.which("setpriv") or subprocess.run([*as_other, "true"], stderr=subprocess.DEVNULL).returncode):
         pytest.skip("as root, and no other user can be taken")
