@@ -5,7 +5,7 @@
 
 enum { ROUNDS = 1000 };
 
-/* A line of n cells whose votes stand so far apart, the divisors of the lines across, its total, and the most of its own divisor. */
+/* A line of n cells whose votes differ so much, the divisors of the lines across, its total, and the most of its own divisor. */
 struct line {
     int n, apart;
     const uint64_t *votes, *others;

@@ -80,7 +80,7 @@ class Prover:
             ran.kill()
 
     def seed(self, crate, room, jobs):
-        """A folder with the work of a check of the crate as it stands, and the report."""
+        """A folder with the work of a check of the unchanged crate, and the report."""
         seed, own = room / "seed", self.tree.folder(crate) / "out/incremental"
         if own.is_dir():
             shutil.copytree(own, seed)

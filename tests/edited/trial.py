@@ -20,7 +20,7 @@ FEW_CHECKS = 2
 
 
 class Crate:
-    """So many wrong bodies of a crate, and what they came to: a kind and the prover's words for each."""
+    """The wrong bodies of a crate and the outcome of each: a kind and the prover's words."""
 
     def __init__(self, name, number):
         self.name, self.number, self.outcomes, self.checks, self.seconds = name, number, {}, 0, 0
@@ -113,7 +113,7 @@ def try_batches(prover, seed, crate, batches, kept, say):
 
 
 def try_crate(tree, prover, name, edits, folder, jobs, anew, say):
-    """Tries these wrong bodies of a crate, all anew or those that no run refused, over a first check of it, which may take so many jobs.
+    """Tries these wrong bodies of a crate, all anew or those that no run refused, over a first check of it, with at most `jobs` jobs.
     Where they are few checks, and the library shows that the crate is proved, none is made: it takes as long as each of them does from
     nothing."""
     began, kept, room = time.monotonic(), Refused(tree, name), Path(tempfile.mkdtemp(prefix=f"{name}-", dir=folder))

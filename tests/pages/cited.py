@@ -109,7 +109,7 @@ def layers(tree):
     root file does not begin with."""
     said, before = {}, set()
     for crate, below in tree.named.items():
-        yield from (f"crates.txt lists {crate} before {it}, on which it stands" for it in below if it in tree.named and it not in before)
+        yield from (f"crates.txt lists {crate} before {it}, which it uses" for it in below if it in tree.named and it not in before)
         before.add(crate)
     for section in sections_of(tree.read(ARCHITECTURE)):
         rows = [(line, *row.values()) for line, row in rows_of(section) if re.match("`zh", [*row.values()][0])]
