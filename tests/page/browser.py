@@ -1,4 +1,5 @@
 """A headless browser on the page, driven as somebody would drive it: files are chosen, texts pasted, keys pressed."""
+import contextlib
 import pathlib
 import tempfile
 
@@ -11,7 +12,7 @@ from selenium.webdriver.support.ui import WebDriverWait
 from places import TOP
 
 PAGE = TOP / "page" / "index.html"
-# No test is about time: a machine may be slow, and have other work. So many seconds mean that nothing comes any more.
+# No test is about time: a machine can be slow or have other work. After this many seconds nothing comes any more.
 PATIENCE = 600
 STARTS = 5
 NAMES = ("sheet.txt", "setup.toml", "held.csv")
@@ -28,26 +29,18 @@ def started(language="en-GB", size=(1280, 900)):
         options.add_argument("--" + argument)
     options.add_experimental_option("prefs", {"intl.accept_languages": language})
     options.set_capability("goog:loggingPrefs", {"performance": "ALL", "browser": "ALL"})
-    for left in reversed(range(STARTS)):
-        try:
-            driver = webdriver.Chrome(service=Service("/usr/bin/chromedriver"), options=options)
-            break
-        except WebDriverException as fault:
-            if left == 0:
-                raise
-            print(f"the browser did not start, and is started again: {str(fault).splitlines()[0]}", flush=True)
-    driver.set_script_timeout(PATIENCE)
-    driver.set_page_load_timeout(PATIENCE)
-    return driver
+    options.timeouts = {"script": 1000 * PATIENCE, "pageLoad": 1000 * PATIENCE}
+    for _ in range(STARTS - 1):
+        with contextlib.suppress(WebDriverException):
+            return webdriver.Chrome(service=Service("/usr/bin/chromedriver"), options=options)
+    return webdriver.Chrome(service=Service("/usr/bin/chromedriver"), options=options)
 
 
 class Page:
     """The page in a browser, with the files that it was given."""
 
     def __init__(self, driver, path=PAGE):
-        self.driver = driver
-        self.path = pathlib.Path(path)
-        self.room = tempfile.TemporaryDirectory()
+        self.driver, self.path, self.room = driver, path, tempfile.TemporaryDirectory()
         self.open()
 
     def open(self):
@@ -63,15 +56,14 @@ class Page:
         self.one("#pick").send_keys("\n".join(map(str, paths)))
 
     def choose(self, *files):
-        """Chooses files, and waits until they are shown."""
-        # What is shown is marked, so that it can be seen to be replaced, also where the same is shown again.
+        """Chooses files, and waits until they are shown, even if they were shown before."""
         self.run("document.body.dataset.shown = ''")
         self.give(*files)
         self.wait(SHOWN)
         return self
 
     def sheet(self, *files, before=""):
-        """The page anew, with a sheet, and perhaps a set-up and rows held, None for one that is not given, after a script."""
+        """The page anew, where after a script a sheet is chosen and perhaps a set-up and returns, None for one that is not."""
         self.open().run(before)
         return self.choose(*(file for file in zip(NAMES, files) if file[1] is not None))
 
@@ -114,11 +106,16 @@ class Page:
     def one(self, css):
         return self.driver.find_element(By.CSS_SELECTOR, css)
 
-    def all(self, css):
-        return self.driver.find_elements(By.CSS_SELECTOR, css)
-
     def click(self, css):
         self.one(css).click()
+
+    def cell(self, row, column):
+        """Opens the panel of a cell of the table of seats; row 0 and column 0 are the names."""
+        self.run("find('seats').rows[arguments[0]].cells[arguments[1]].firstChild.click()", row, column)
+        return self
+
+    def press(self, *keys):
+        webdriver.ActionChains(self.driver).send_keys(*keys).perform()
 
     def speak(self, language):
         """Has the page in this language, 'en' or 'de'."""
@@ -143,15 +140,5 @@ class Page:
         """What the page's own check says, 'right', 'wrong' or 'refused', or 'none' without a sheet; and the colour of the bar."""
         return tuple(self.run("return [document.body.dataset.own, document.body.dataset.state]"))
 
-    def own(self):
-        return self.bar()[0]
-
     def state(self):
         return self.bar()[1]
-
-    def failing(self):
-        """The parts of the check that fail."""
-        return [name.split()[1] for name in self.texts("#parts tr.bad th")]
-
-    def press(self, *keys):
-        webdriver.ActionChains(self.driver).send_keys(*keys).perform()

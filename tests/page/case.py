@@ -1,4 +1,5 @@
 """What the tests of the page share."""
+import pathlib
 import unittest
 
 import pytest
@@ -6,41 +7,20 @@ import pytest
 import browser
 import model
 import sheets
+from cases import turns
 
-EXAMPLE = """\
-1 sheet provisional 9
-house 10
-seats key 10000/10
-upper key 300/6
-constituency 1 persons 5000 seats 5 votes 1000 divisor 205.000000 Nord
-constituency 2 persons 3000 seats 3 votes 600 divisor 190.000000 Mitte
-constituency 3 persons 2000 seats 2 votes 200 divisor 110.000000 West
-group 1 quorum yes voters 230 seats 5 divisor 1.000000 A
-group 2 quorum yes voters 200 seats 4 divisor 1.000000 B
-group 3 quorum yes voters 70 seats 1 divisor 1.000000 C
-list 1 1 votes 525 voters 105 seats 3
-list 1 2 votes 300 voters 60 seats 1
-list 1 3 votes 175 voters 35 seats 1
-list 2 1 votes 240 voters 80 seats 1
-list 2 2 votes 330 voters 110 seats 2
-list 2 3 votes 30 voters 10 seats 0
-list 3 1 votes 90 voters 45 seats 1
-list 3 2 votes 60 voters 30 seats 1
-list 3 3 votes 50 voters 25 seats 0
-end
-"""
-SETUP = sheets.setup("rehearsal")
-ROWS = model.Election(10, [5000, 3000, 2000], [[525, 300, 175], [240, 330, 30], [90, 60, 50]]).held()
-# The set-up and the rows, as they stand after a sheet of the example.
+SAID = pathlib.Path(__file__).with_name("said.case")
+EXAMPLE, SETUP, ROWS = (next(turns(SAID))[1][name].decode() for name in ("sheet", "setup.toml", "held.csv"))
+# The set-up and the returns that belong to the example.
 OTHERS = (SETUP, ROWS)
 LARGEST = model.made_up(1, 32, 32, 400, quorum=1)
 HEADINGS = {"wrong": "✗ Wrong: ", "mismatch": "≠ Does not match the ", "damaged": "! This file is "}
-# German words beside those that a desk, an entry, the office, a sheet, a set-up and a verdict have; and what a Swiss office does not write.
+# German words besides those for a desk, an entry, the office, a sheet, a set-up and a verdict; and what a Swiss office does not write.
 OTHER_WORDS = r"ß|Set-up|vorläufig|Urteil|Tausenderstrich|\b(Platz|Plätze|Eingabe|Büro|Blatt|Blätter)"
 
 
 def changed(text, old, new):
-    """The text with this in the place of that, which stands there once."""
+    """The text with this in the place of that, which occurs once."""
     assert text.count(old) == 1, old
     return text.replace(old, new)
 
@@ -49,8 +29,18 @@ WRONG = changed(EXAMPLE, "list 1 1 votes 525 voters 105 seats 3", "list 1 1 vote
 WRONG_KEY = changed(sheets.ZURICH.sheet, "seats key 38000/38", "seats key 38000/39")
 
 
+def said(title=""):
+    """The word, the rest and the files of each turn of said.case, or of the case with this title."""
+    current = ""
+    for line, files in turns(SAID):
+        word, _, rest = line.partition(" ")
+        current = rest if word == "case" else current
+        if title in ("", current):
+            yield word, rest, files
+
+
 class Case(unittest.TestCase):
-    """Tests with one browser for a whole class, which is one process's therefore. Each test opens the page anew."""
+    """Tests with one browser for a whole class, which runs in one process therefore. Each test opens the page anew."""
     language = "en-GB"
     path = browser.PAGE  # of the page that is tested
     starts, ends = staticmethod(browser.started), staticmethod(lambda driver: driver.quit())
@@ -74,7 +64,7 @@ class Case(unittest.TestCase):
         self.addCleanup(self.driver.execute_cdp_cmd, "Emulation.clearDeviceMetricsOverride", {})
 
     def has_medium(self, medium="", scheme="light"):
-        """Gives the browser another medium, as 'print', and light or dark colours, until the end of the test."""
+        """Gives the browser another medium, for example 'print', and light or dark colours, until the end of the test."""
         features = [{"name": "prefers-color-scheme", "value": scheme}]
         self.driver.execute_cdp_cmd("Emulation.setEmulatedMedia", {"media": medium, "features": features})
         self.addCleanup(self.driver.execute_cdp_cmd, "Emulation.setEmulatedMedia", {"media": "", "features": []})
@@ -82,21 +72,41 @@ class Case(unittest.TestCase):
     def bar_is(self, state, heading):
         self.assertEqual((self.page.state(), self.page.text("#verdict")), (state, heading))
 
-    def holds(self, *files):
-        """The page's own check says right. Which colour the bar has depends on what was given (test_bar.py)."""
-        page = self.page.show(*files)
-        self.assertEqual(page.bar(), ("right", "unsure"), page.text("#problems"))
-        self.assertEqual(page.seen("#parts tr.bad", ".fault"), [[], []])
-        return page
+    def holds(self):
+        """The page's own check says right. Which colour the bar has depends on the files that were opened (test_bar.py)."""
+        self.assertEqual(self.page.bar(), ("right", "unsure"), self.page.text("#problems"))
+        self.assertEqual(self.page.seen("#parts tr.bad", ".fault"), [[], []])
 
-    def fails(self, part, line, reason, *files, state="wrong"):
-        """The first fault is of this part (None: the sheet can't be read), in this line, and for this reason. The bar has this state,
-        by whether the sheet itself is wrong, does not match another file, or was damaged."""
-        page = self.page.show(*files)
-        self.assertEqual(page.bar(), ("wrong", state))
-        (verdict,), reasons, (text, *_), parts = page.seen("#verdict", ".fault .reason", ".fault pre", "#parts tr.bad th")
+    def fails(self, state, part, line, reason):
+        """The bar has this state; the first fault is of this part ("-": the sheet can't be read), in this line, and for this reason."""
+        self.assertEqual(self.page.bar(), ("wrong", state))
+        (verdict,), reasons, (text, *_), parts = self.page.seen("#verdict", ".fault .reason", ".fault pre", "#parts tr.bad th")
         self.assertTrue(verdict.startswith(HEADINGS[state]), verdict)
         self.assertIn(reason, reasons[0])
         self.assertRegex(text, f"^{line}:")
-        self.assertEqual([it.split()[1] for it in parts[:1]], [] if part is None else [part])
-        return page
+        self.assertEqual([it.split()[1] for it in parts[:1]], [] if part == "-" else [part])
+
+    def plays(self, title):
+        """Each turn of a case of said.case, whose first lines explain them."""
+        self.assertIn(f"\ncase {title}\n", SAID.read_text())
+        for word, rest, files in said(title):
+            if word == "open":
+                self.page.show(*(files.get(name) for name in rest.split()))
+            elif word == "proved":
+                self.page.proved(*rest.split(" ", 1))
+            elif word == "bar":
+                self.bar_is(*rest.split(" ", 1))
+            elif word == "says":
+                self.assertIn(rest, self.page.text("body"))
+            elif word == "not":
+                self.assertNotIn(rest, self.page.text("body"))
+            elif word == "right":
+                self.holds()
+            elif word in HEADINGS:
+                self.fails(word, *rest.split(" ", 2))
+            elif word == "cell":
+                self.page.cell(*rest.split())
+            elif word == "panel":
+                self.assertIn(rest, self.page.text("#detail"))
+            else:
+                self.assertIn(word, ("case", "file", "replace"))

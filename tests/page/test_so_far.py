@@ -1,5 +1,6 @@
 """How far the count is, before there are seats: what the page shows then, and that its sums are those of `zhcount votes`."""
 import csv
+import itertools
 import pathlib
 import random
 import re
@@ -15,9 +16,6 @@ from places import PROGRAM, TOP
 
 FEW = "".join(ROWS.splitlines(keepends=True)[:5])
 NO_SEATS = "zhcount: refused novotes 3\n"
-TIED = ("zhcount: refused tied lower 2 1\nthe lot decides between distributions that differ in these lists\n1 1 0 1\n2 1 0 1\n"
-        "all other lists have the same seats in each\n3 1 2\n")
-NOT_PROVED = "Computed by this page, not proved."
 NIGHTS = 6
 OPEN = "The missing returns can still change all of it."
 # How much of their whole the bars of a table are.
@@ -30,10 +28,10 @@ HEADS = re.findall(r"^ *((?:constituency|group),[a-z0-9_,]+)$", (TOP / "docs/FOR
 
 
 def nights():
-    """The set-up and the rows of counts of elections of the repository that are not at their end: some returns are missing, and some lists
+    """The set-up and the rows of counts that are not at their end, of elections of the repository: some returns are missing, and some lists
     are withdrawn. The first count has no return yet."""
     chance = random.Random(72)
-    found = [*dict.fromkeys((setup, held) for _, _, setup, held in sheets.all_sheets() if held)]
+    found = [*dict.fromkeys((setup, held) for _, setup, held in sheets.all_sheets())]
     with_quorum = [it for it in found if "canton_quorum" in it[0]]
     for at in range(NIGHTS):
         setup, held = chance.choice(with_quorum if at % 2 else found)
@@ -65,7 +63,8 @@ class SoFar(Case):
         self.assertEqual(page.bar(), ("none", "none"))
         self.assertEqual(page.seen("#kind", "#verdict", "#title", "#election", "#so-far p"), [[it] for it in (
             "NO SHEET YET", "i 4 of 9 returns are in", "10 seats in 3 constituencies",
-            "Constituencies: Nord, Mitte, West. Groups: A, B, C. Votes: 1,240.", f"4 of 9 returns are in. {NOT_PROVED} {OPEN}")])
+            "Constituencies: Nord, Mitte, West. Groups: A, B, C. Votes: 1,240.",
+            f"4 of 9 returns are in. Computed by this page, not proved. {OPEN}")])
         self.assertEqual(page.texts("#held-so-far :is(tbody, tfoot) tr"), ["Nord 3 of 3", "Mitte 1 of 3", "West 0 of 3", "Total 4 of 9"])
         self.assertEqual(page.texts("#votes-so-far :is(tbody, tfoot) tr"),
                          ["1 A 765 61.69% ✓ reached in Nord, Mitte", "2 B 300 24.19% ✓ reached in Nord", "3 C 175 14.11% ✓ reached in Nord",
@@ -73,49 +72,27 @@ class SoFar(Case):
         for css, name, wanted in (("#held-so-far", "Returns by constituency", [1, 1 / 3, 0]),
                                   ("#votes-so-far", "Votes by group", [1, 300 / 765, 175 / 765])):
             self.assertEqual((page.one(css).aria_role, page.one(css).accessible_name), ("table", name))
-            widths = page.run(WIDTHS, css)
-            self.assertEqual(len(widths), len(wanted))
-            for is_now, should in zip(widths, wanted):
+            for is_now, should in itertools.zip_longest(page.run(WIDTHS, css), wanted):
                 self.assertAlmostEqual(is_now, should, delta=0.03)
-        page.speak("de")
-        self.assertEqual(page.seen("#verdict", "#so-far h2", "#so-far p", "#so-far caption"), [
-            ["i 4 von 9 Meldungen sind eingegangen"], ["Wie weit die Auszählung ist"],
-            ["4 von 9 Meldungen sind eingegangen. Von dieser Seite berechnet, nicht bewiesen. Die fehlenden Meldungen können alles noch "
-             "ändern."],
-            ["Meldungen nach Wahlkreis", "Stimmen nach Gruppe"]])
-        self.assertEqual(page.texts("#votes-so-far tbody tr")[1], "2 B 300 24.19 % ✓ erreicht in Nord")
 
     def test_a_refusal_in_place_of_a_sheet(self):
-        for text, why in ((NO_SEATS, "no votes in constituency 3 (West)"), ("1 refused novotes 3\n", "no votes in constituency 3 (West)"),
-                          ("refused nogroup\n", "No group takes part"), (TIED, "group 1 (A) in constituency 2 (Mitte) lies on a half")):
-            with self.subTest(text):
-                page = self.opened(None, None, text)
-                self.assertEqual((page.state(), page.text("#so-far")), ("answer", ""))
-                self.assertIn("If you open the set-up and the returns too, this page shows how far the count is.", page.text("#why"))
-                page = self.opened(sheet=text)
-                self.bar_is("answer", "i The office gives no seats, and says why")
-                self.assertIn(why, " ".join(page.texts("#why p")))
-                self.assertNotIn("If you open", " ".join(page.texts("#why p")))
-                self.assertIn(f"4 of 9 returns are in. {NOT_PROVED}", page.text("#so-far"))
-                self.assertEqual(page.text("#title"), "10 seats in 3 constituencies")
+        self.plays("answers of the office in place of a sheet")
 
     def test_the_whole_folder(self):
         """Of all that is published together, the tables and the page itself are left, with a sheet and without one."""
         tables = [(f"table-{at}.csv", f"{head}\n1,1,525\n") for at, head in enumerate(HEADS)]
         before = [it for it in tables if "reaches_quorum" in it[1]]
         self.assertEqual((len(before), len(tables)), (2, 5))
-        rest = ("index.html", self.page.path.read_text()), ("setup.toml", SETUP)
-        page = self.page.choose(*sorted((*rest, ("held.csv", FEW), ("no-seats", NO_SEATS), *before)))
-        self.assertEqual((page.state(), page.texts(".had .file")), ("answer", ["no-seats", "setup.toml", "held.csv"]))
-        self.assertIn("4 of 9 returns are in.", page.text("#so-far"))
-        page.open().choose(*sorted((*rest, ("held.csv", ROWS), ("sheet.txt", EXAMPLE), *tables)))
-        self.assertEqual((page.state(), page.texts(".had .file")), ("right", ["sheet.txt", "setup.toml", "held.csv"]))
+        for rest, state in (((("no-seats", NO_SEATS), ("held.csv", FEW), *before), "answer"),
+                            ((("sheet.txt", EXAMPLE), ("held.csv", ROWS), *tables), "right")):
+            page = self.page.open().choose(*sorted((("index.html", self.page.path.read_text()), ("setup.toml", SETUP), *rest)))
+            self.assertEqual((page.state(), page.texts(".had .file")), (state, [rest[0][0], "setup.toml", "held.csv"]))
+            self.assertEqual("4 of 9 returns are in." in page.text("#so-far"), state == "answer")
 
     def test_nothing_where_there_is_a_sheet_or_a_file_is_not_read(self):
         for files in ((FEW, SETUP, EXAMPLE), (FEW, SETUP, EXAMPLE[:300]), (None, SETUP), (FEW, None),
                       (FEW, SETUP + "x\n"), (FEW + "x\n", SETUP)):
-            with self.subTest(files):
-                self.assertEqual(self.opened(*files).text("#so-far"), "")
+            self.assertEqual(self.opened(*files).text("#so-far"), "", files)
 
     def test_which_returns_are_in_and_who_reaches_a_quorum(self):
         page = self.opened(ROWS.splitlines(keepends=True)[0])
@@ -154,20 +131,19 @@ class SoFar(Case):
         kinds = set()
         for setup, rows in nights():
             lists, groups = counted(setup, rows)
-            with self.subTest(rows=rows, setup=setup):
-                constituencies, votes, shown = self.page.run("""
-                    const setup = readSetup(arguments[0]);
-                    const { constituencies, groups, votes } = countSoFar(setup, readHeld(arguments[1], setup));
-                    return [constituencies.map(({ held, due }) => [held, due]), `${votes}`,
-                      groups.map(({ name, votes, reaches, reachedIn }) => [name, `${votes}`, reaches ? 'yes' : 'no', reachedIn])];
-                """, setup, "\n".join(["municipality,list,number,votes", *rows, ""]))
-                for d, pair in enumerate(constituencies, 1):
-                    own = [it for it in lists if it["constituency"] == str(d)]
-                    self.assertEqual(pair, [sum(int(it[key]) for it in own) for key in ("held", "due")])
-                self.assertEqual({votes}, {it["all_votes"] for it in groups})
-                reached = {it["group"]: [its["constituency_name"] for its in lists
-                                         if its["group"] == it["group"] and its["reaches_quorum"] == "yes"] for it in groups}
-                self.assertEqual(shown, [[it["group_name"], it["votes"], it["reaches_quorum"], reached[it["group"]]] for it in groups])
-                kinds |= {("withdrawn" in "".join(rows), reaches, len(where) > 0) for _, _, reaches, where in shown}
-        # There were lists withdrawn, groups that reach no quorum, one in a constituency, and that of the canton alone.
+            constituencies, votes, shown = self.page.run("""
+                const setup = readSetup(arguments[0]);
+                const { constituencies, groups, votes } = countSoFar(setup, readHeld(arguments[1], setup));
+                return [constituencies.map(({ held, due }) => [held, due]), `${votes}`,
+                  groups.map(({ name, votes, reaches, reachedIn }) => [name, `${votes}`, reaches ? 'yes' : 'no', reachedIn])];
+            """, setup, "\n".join(["municipality,list,number,votes", *rows, ""]))
+            for d, pair in enumerate(constituencies, 1):
+                own = [it for it in lists if it["constituency"] == str(d)]
+                self.assertEqual(pair, [sum(int(it[key]) for it in own) for key in ("held", "due")], setup)
+            self.assertEqual({votes}, {it["all_votes"] for it in groups})
+            reached = {it["group"]: [its["constituency_name"] for its in lists
+                                     if its["group"] == it["group"] and its["reaches_quorum"] == "yes"] for it in groups}
+            self.assertEqual(shown, [[it["group_name"], it["votes"], it["reaches_quorum"], reached[it["group"]]] for it in groups], setup)
+            kinds |= {("withdrawn" in "".join(rows), reaches, len(where) > 0) for _, _, reaches, where in shown}
+        # Lists were withdrawn, and some groups reach no quorum, some that of a constituency, and some that of the canton alone.
         self.assertLessEqual({(True, "no", False), (True, "yes", True), (True, "yes", False)}, kinds)

@@ -4,6 +4,7 @@ import re
 
 from selenium.webdriver.common.keys import Keys
 
+from browser import SHOWN
 from case import EXAMPLE, LARGEST, OTHER_WORDS, ROWS, SETUP, WRONG, Case, changed
 from sheets import ZURICH
 
@@ -17,38 +18,38 @@ class Use(Case):
 
     def test_hostile_names_are_text(self):
         self.complaints()
-        page = self.holds(changed(EXAMPLE, "1.000000 A", f"1.000000 {HOSTILE}").replace("Nord", "<b>N</b>"))
+        page = self.page.show(changed(EXAMPLE, "1.000000 A", f"1.000000 {HOSTILE}").replace("Nord", "<b>N</b>"))
+        self.holds()
         for css in (".legend", "#seats thead"):
             self.assertIn(HOSTILE, page.text(css))
-        page.click("#seats tbody td button")
-        self.assertIn(f"<b>N</b>, {HOSTILE}", page.text("#detail"))
+        self.assertIn(f"<b>N</b>, {HOSTILE}", page.cell(1, 1).text("#detail"))
         self.assertIn(HOSTILE, page.choose(("second", EXAMPLE)).text("#changes"))
-        self.assertEqual(page.all("img, b, iframe, [onerror]"), [])
-        self.fails(None, 1, "it does not belong here", f"{HOSTILE}\n")
+        self.assertEqual(page.texts("img, b, iframe, [onerror]"), [])
+        page.show(f"{HOSTILE}\n")
+        self.fails("wrong", "-", 1, "it does not belong here")
         self.assertIn(HOSTILE, page.text(".fault pre"))
         page.show(None, SETUP.replace('"A"', f'"{HOSTILE}"').replace('"Nord"', f'"{HOSTILE}"'), ROWS)
         for css in ("#held-so-far", "#votes-so-far"):
             self.assertIn(HOSTILE, page.text(css))
-        self.assertEqual(page.all("img, [onerror]"), [])
+        self.assertEqual(page.texts("img, [onerror]"), [])
         self.assertEqual(self.complaints(), [])
 
     def test_the_policy_stops_markup(self):
         """Were a name ever inserted as markup, nothing would run or be fetched."""
-        markup = "<img src=https://example.org/x onerror='document.title = 1'><div onclick='document.title = 2' id=d>x</div>"
         self.page.run("""
             window.refused = 0;
             document.addEventListener('securitypolicyviolation', () => { window.refused += 1; });
-            document.body.insertAdjacentHTML('beforeend', arguments[0]);
+            document.body.insertAdjacentHTML('beforeend', `<img src=https://example.org/x onerror='document.title = 1'>
+              <div onclick='document.title = 2' id=d>x</div>`);
             document.getElementById('d').click();
-        """, markup)
+        """)
         self.page.wait("return window.refused >= 2 || ['1', '2'].includes(document.title)")
         self.assertNotIn(self.driver.title, ("1", "2"))
 
     def test_no_request_is_made(self):
-        """Beside that for the page, and for the worker's text, which comes from the page itself."""
+        """Except for the page, and for the worker's text, which comes from the page itself."""
         self.complaints(), self.driver.get_log("performance")
-        page = self.page.sheet(*ZURICH)
-        page.click("#seats tbody td button")
+        page = self.page.sheet(*ZURICH).cell(1, 1)
         page.speak("de")
         messages = [json.loads(entry["message"])["message"] for entry in self.driver.get_log("performance")]
         asked = {it["params"]["request"]["url"] for it in messages if it["method"] == "Network.requestWillBeSent"}
@@ -67,17 +68,15 @@ class Use(Case):
         page.press(Keys.TAB, Keys.ENTER, Keys.TAB)
         self.assertEqual(self.focus("id"), "text")
         page.press(EXAMPLE.rstrip("\n"), Keys.TAB, Keys.ENTER)
-        self.assertEqual(page.own(), "right")
+        self.assertEqual(page.bar(), ("right", "unsure"))
         for _ in range(12):
             if "Nord, A" not in self.focus("aria-label"):
                 page.press(Keys.TAB)
         self.assertEqual(self.focus("aria-label"), "Nord, A: 3, holds")
-        page.press(Keys.ARROW_DOWN, Keys.ARROW_RIGHT)
-        self.assertEqual(self.focus("aria-label"), "Mitte, B: 2, holds")
-        page.press(Keys.ENTER)
+        page.press(Keys.ARROW_DOWN, Keys.ARROW_RIGHT, Keys.ENTER)
         self.assertIn("Mitte, B: 2 seats", page.text("#detail h2"))
         page.press(Keys.ESCAPE)
-        self.assertFalse(page.one("#detail").is_displayed())
+        self.assertEqual(page.text("#detail"), "")
         self.assertEqual(self.focus("aria-label"), "Mitte, B: 2, holds")
         page.press(Keys.HOME)
         self.assertEqual(self.focus("aria-label"), "Constituency Mitte, holds")
@@ -90,10 +89,10 @@ class Use(Case):
             document.body.dataset.shown = '';
             document.querySelector('.drop').dispatchEvent(new DragEvent('drop', { dataTransfer: data, bubbles: true, cancelable: true }));
         """, name, text)
-        self.page.wait("return document.body.dataset.shown !== '' && document.body.dataset.proved !== 'runs'")
+        self.page.wait(SHOWN)
 
     def test_files_that_are_dropped_and_can_not_be_read(self):
-        """No sheet stays green beside a file of which the browser gives no bytes, as of a folder; once it is removed the one before is
+        """No sheet stays green when the browser gives no bytes of a file, for example of a folder; once that is removed the one before is
         back."""
         page = self.page.choose(("setup.toml", SETUP), ("held.csv", ROWS))
         self.drop("a sheet", EXAMPLE)
@@ -126,8 +125,8 @@ class Use(Case):
         page.give(("wrong.txt", WRONG))
         page.choose(("sheet.txt", EXAMPLE))
         page.run("document.body.dataset.shown = ''; window.go()")
-        page.wait("return document.body.dataset.shown !== ''")
-        self.assertEqual(page.own(), "right")
+        page.wait(SHOWN)
+        self.assertEqual(page.bar()[0], "right")
         self.assertEqual(page.seen(".had .sheet .file", ".had .before .file"), [["sheet.txt"], ["wrong.txt"]])
 
     def test_the_focus_stays(self):
@@ -141,8 +140,7 @@ class Use(Case):
 
     def test_tables_and_other_parts_have_their_meaning(self):
         page = self.page.choose(("one", EXAMPLE)).choose(("two", changed(EXAMPLE, "provisional 9", "provisional 10")))
-        for part, scope in (("thead", "col"), ("tbody", "row")):
-            self.assertEqual({head.get_attribute("scope") for head in page.all(f"#seats {part} th")}, {scope})
+        self.assertEqual(page.texts("#seats thead th:not([scope=col]), #seats tbody th:not([scope=row])"), [])
         for css, name in (("#seats", "Seats by constituency and group"), ("#pick", "Choose files"), ("#parts", "Checks"),
                           ("#changes table", "What changed"), (".arc", "The parliament: 10 seats, from left to right by group")):
             # What is far out of sight is not drawn, and has no name yet.
@@ -165,43 +163,23 @@ class Use(Case):
                  ["Sheet", "Set-up file", "File of returns"])):
             page.speak(language)
             self.assertEqual(page.seen("#choose", ".drop dt"), [[choose], names])
-            self.assertEqual(page.run("return document.documentElement.lang"), language)
-            self.assertEqual(page.driver.switch_to.active_element.get_attribute("lang"), language)
+            self.assertEqual((page.run("return document.documentElement.lang"), self.focus("lang")), (language, language))
 
     def test_the_largest_sheet(self):
         """What it calls itself stays in sight."""
-        page = self.holds(*LARGEST.files())
-        self.assertEqual(len(page.all(".arc .seat")), 400)
+        page = self.page.show(*LARGEST.files())
+        self.holds()
         self.assertLess(page.run("return document.querySelectorAll('*').length"), 10 * 32 * 32)
         page.run("window.scrollTo(0, document.body.scrollHeight)")
-        top = page.run("return document.getElementById('kind').getBoundingClientRect().top")
-        self.assertGreaterEqual(top, 0)
-        self.assertLess(top, 60)
-        self.assertEqual("The sheet calls itself “final”", page.text("#kind"))
+        self.assertIn(page.run("return Math.floor(find('kind').getBoundingClientRect().top)"), range(60))
 
 
 class German(Case):
     language = "de-CH"
 
     def test_the_browser_chooses_the_language(self):
-        """The set-up has its German word, and each text its values."""
-        page = self.page.show(EXAMPLE)
-        self.assertEqual(page.driver.title, "Ein veröffentlichtes Resultatblatt prüfen")
-        self.assertEqual(page.seen("#title", "#kind", "#verdict"), [
-            ["10 Sitze in 3 Wahlkreisen"], ["Das Resultatblatt nennt sich «provisorisch»"],
-            ["! Nicht vollständig geprüft: Die Sitze passen zu seinen Stimmen"]])
-        self.assertIn("Ohne Grunddaten sind Sitzzahl, Namen, Personen, Quorum und Listen nicht geprüft", page.text("#ticks"))
-        self.assertNotIn("Set-up", page.text("body"))
-        page.show(changed(EXAMPLE, "205.000000", "210.000000").replace("votes 1000", "votes 1001"), SETUP).proved("wrong")
-        self.assertEqual(page.seen(".had .setup .what", "#proved h2"), [["Grunddaten"], ["Die bewiesene Prüfung"]])
-        for said in ("525 / (210.000000 × 1.000000) = 2.5 liegt auf einem Halben",
-                     "die Stimmen seiner Listen ergeben 1’000 und nicht 1’001"):
-            self.assertIn(said, page.texts(".fault .reason"))
-        self.assertNotRegex(page.text("body"), r"[{}]|undefined|null")
-        page.show("1 refused tied seats\n")
-        self.assertEqual(page.text("#verdict"), "i Die Auszählungsstelle gibt keine Sitze an und sagt, warum")
-        for said in ("und die Seite prüft diese Antwort nicht", "Gleichstand bei den Sitzen der Wahlkreise"):
-            self.assertIn(said, page.text("#why"))
+        self.assertEqual(self.driver.title, "Ein veröffentlichtes Resultatblatt prüfen")
+        self.plays("in German")
 
     def test_each_thing_has_one_word(self):
         """Those of the card for a desk are the same, and no other (test_card.py)."""
