@@ -1,29 +1,63 @@
 """The two checks of the page against `zhcount check`: its own says right or wrong as that does, and the proved one answers byte
 for byte what that does."""
 import base64
+import concurrent.futures
+import functools
+import os
+import pathlib
 import random
 import re
+import subprocess
+import tempfile
 
 import pytest
 
 import firefox
 import model
-import program
 import sheets
 from case import EXAMPLE, LARGEST, OTHERS, ROWS, SETUP, WRONG, Case
 from cases import turns
-from places import CASES
-from program import utf8
+from places import CASES, PROGRAM
 from test_colours import Chosen
 from test_so_far import FEW, WIDTHS
 
 pytestmark = [pytest.mark.long, pytest.mark.usefixtures("program")]
 
 CHECKED = ("checked_lines.case", "checked_numbers.case", "program_checks.case")
-# Of so many cases one is asked in a worker of its own too, as the page asks.
+# One in so many cases is asked in a worker of its own too, as the page asks.
 WORKER = 10
 # So many changes of each larger sheet, from this seed. Of the smallest all are taken.
 SAMPLE, SEED = 20, 2027
+
+
+@functools.lru_cache(None)
+def program_answer(setup, sheet, held=None):
+    """What the program answers on these bytes, as the page's module would: a status and bytes. The module reads texts and not files, so
+    the second line of its report has neither the path, which comes first, nor the limits, which come last."""
+    with tempfile.TemporaryDirectory() as room:
+        given = {name: content for name, content in (("setup", setup), ("sheet", sheet), ("held", held)) if content is not None}
+        for name, content in given.items():
+            pathlib.Path(room, name).write_bytes(content)
+        ran = subprocess.run([PROGRAM, "check", *(word for name in given for word in (f"--{name}", name))], cwd=room,
+                             stdin=subprocess.DEVNULL, stdout=subprocess.PIPE, stderr=subprocess.PIPE)
+    if ran.stdout:
+        return ran.returncode, ran.stdout
+    name, _, line = ran.stderr.replace(b"zhcount: ", b"", 1).partition(b"\n")
+    place = line.rstrip(b"\n").partition(b": ")[2]
+    if name == b"setup range":
+        place = place.partition(b": ")[0]
+    status = {b"setup": 2, b"held": 3}.get(name.partition(b" ")[0], ran.stderr)
+    return status, b"".join(it + b"\n" for it in (name, place) if it)
+
+
+def program_answers(cases):
+    """What the program answers on each of these; as many are asked at once as there are processors."""
+    with concurrent.futures.ThreadPoolExecutor(len(os.sched_getaffinity(0))) as pool:
+        return list(pool.map(lambda case: program_answer(*case), cases))
+
+
+def utf8(*texts):
+    return tuple(None if text is None else text.encode() for text in texts)
 
 
 def changes(sheet):
@@ -31,15 +65,12 @@ def changes(sheet):
     other ends."""
     lines = sheet.splitlines(keepends=True)
     for at, line in enumerate(lines):
-        after = "".join(lines[at + 1:at + 2])
-        for put in ("", line + line, after + line):
-            yield "".join(lines[:at] + [put] + lines[at + 1 + (put == after + line):])
-        for number in re.finditer(r"\d+", line):
-            for put in (int(number[0]) - 1, int(number[0]) + 1, 0, f"0{number[0]}", 2**64, "-"):
-                yield "".join(lines[:at] + [f"{line[:number.start()]}{put}{line[number.end():]}"] + lines[at + 1:])
-        for old, new in ((" yes ", " no "), (" no ", " yes "), (" - ", " 0 "), (" - ", " 1.000000 ")):
-            for place in re.finditer(old, line):
-                yield "".join(lines[:at] + [line[:place.start()] + new + line[place.end():]] + lines[at + 1:])
+        before, following, after = "".join(lines[:at]), "".join(lines[at + 1:at + 2]), "".join(lines[at + 2:])
+        yield from (before + put + after for put in (following, line + line + following, following + line))
+        puts = [(it, put) for it in re.finditer(r"\d+", line) for put in (int(it[0]) - 1, int(it[0]) + 1, 0, f"0{it[0]}", 2**64, "-")]
+        puts += [(it, new) for old, new in ((" yes ", " no "), (" no ", " yes "), (" - ", " 0 "), (" - ", " 1.000000 "))
+                 for it in re.finditer(old, line)]
+        yield from (f"{before}{line[:it.start()]}{put}{line[it.end():]}{following}{after}" for it, put in puts)
     yield from (sheet[:-1], sheet + "\n", sheet + sheet, sheet.replace("\n", "\r\n"), "\ufeff" + sheet, "")
 
 
@@ -60,7 +91,7 @@ class Proved:
         """What it answers on each of these, as the page asks it: in a worker of its own; or the same call in the page, with the module
         compiled once, which is faster."""
         coded = [[None if text is None else base64.b64encode(text).decode() for text in case] for case in cases]
-        answers = self.driver.execute_async_script("""
+        found = self.driver.execute_async_script("""
             const [cases, inWorker, done] = arguments;
             const bytes = (text) => (text === null ? null : Uint8Array.from(atob(text), (c) => c.charCodeAt(0)));
             const coded = (text) => btoa(Array.from(text, (c) => String.fromCharCode(c)).join(''));
@@ -75,18 +106,17 @@ class Proved:
               return answers;
             })().then(done, (fault) => done(String(fault)));
         """, coded, in_worker)
-        self.assertIsInstance(answers, list)
-        return [(status, base64.b64decode(text)) for status, text in answers]
+        self.assertIsInstance(found, list)
+        return [(status, base64.b64decode(text)) for status, text in found]
 
     def same_answers(self, cases):
         """The page answers each of these as the program does, byte for byte; and some of them in a worker."""
         self.page.open()
         for some, in_worker in ((cases, False), (cases[::WORKER], True)):
-            answers = self.answers(some, in_worker)
-            self.assertEqual(len(answers), len(some))
-            for case, answer, wanted in zip(some, answers, program.answers(some)):
-                with self.subTest(case[1][:400]):
-                    self.assertEqual(answer, wanted)
+            found = self.answers(some, in_worker)
+            self.assertEqual(len(found), len(some))
+            for case, one, wanted in zip(some, found, program_answers(some)):
+                self.assertEqual(one, wanted, case[1][:400])
 
     def test_each_check_of_the_cases(self):
         for name, least in zip(CHECKED, (80, 80, 200)):
@@ -100,7 +130,7 @@ class Proved:
             self.bar_is(state, heading)
             self.assertTrue(page.text("#proved p").startswith(f"It says that the sheet is {state}. "), page.text("#proved p"))
             shown = page.one("#proved pre").get_property("textContent").encode()
-            self.assertEqual((int(state == "wrong"), shown), program.answer(*utf8(SETUP, sheet, ROWS)))
+            self.assertEqual((int(state == "wrong"), shown), program_answer(*utf8(SETUP, sheet, ROWS)))
 
 
 class Chromium(Proved, Case):
@@ -110,10 +140,9 @@ class Chromium(Proved, Case):
         cases = [(text, setup, held) for texts, setup, held in found for text in texts]
         coded = [utf8(setup, text, held) for text, setup, held in cases]
         self.same_answers(coded)
-        for (text, *_), (status, answer), state in zip(cases, program.answers(coded), self.page.states(*cases)):
-            with self.subTest(text[:400]):
-                self.assertTrue(status == 0 or status == 1 and answer.endswith(b"sheet wrong\n"), answer)
-                self.assertEqual(state, "wrong" if status else "right")
+        for (text, *_), (status, said), state in zip(cases, program_answers(coded), self.page.states(*cases)):
+            self.assertTrue(status == 0 or status == 1 and said.endswith(b"sheet wrong\n"), said)
+            self.assertEqual(state, "wrong" if status else "right", text[:400])
 
     def test_each_sheet_of_the_repository(self):
         """And some with a forged quorum, or beside other rows."""
@@ -121,14 +150,14 @@ class Chromium(Proved, Case):
         self.assertGreaterEqual(len(found), 28)
         election = model.made_up(3, 6, 5, 60)
         rows = ROWS, ROWS.replace("525", "526"), ROWS.replace("3,3,1,50", "3,3,2,withdrawn"), ROWS.replace("1,1,1,525\n", "")
-        self.same(*(([sheet], setup, rows) for _, sheet, setup, held in found for rows in {None, held}),
+        self.same(*(([sheet], setup, given) for sheet, setup, held in found for given in (None, held)),
                   ([election.sheet(), election.sheet(part=[True] * 3 + [False, True])], election.setup(), election.held()),
                   *(([EXAMPLE], SETUP, held) for held in rows))
 
     def test_each_change_of_a_sheet(self):
         """Of the example each, and of others some."""
         chance = random.Random(SEED)
-        others = [model.Election(10, [1000], [[600, 370, 30]]).files(), *(found[1:] for found in sheets.all_sheets())]
+        others = [model.Election(10, [1000], [[600, 370, 30]]).files(), *sheets.all_sheets()]
         self.same((list(changes(EXAMPLE)), SETUP, None),
                   *((chance.sample(list(changes(sheet)), SAMPLE), setup, held) for sheet, setup, held in others))
 
@@ -158,7 +187,7 @@ class Chromium(Proved, Case):
         """)
         page.click("#save")
         page.wait("return window.saved !== undefined")
-        self.assertEqual(bytes(page.run("return window.saved")), program.answer(SETUP.encode(), sheet)[1])
+        self.assertEqual(bytes(page.run("return window.saved")), program_answer(SETUP.encode(), sheet)[1])
 
 
 class Firefox(Proved, Chosen, Case):

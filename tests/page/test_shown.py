@@ -1,12 +1,13 @@
 """What the page says of the proved check, and where that does not run."""
+import base64
 import pathlib
 import re
 import subprocess
 
 import browser
-import seals
 from case import EXAMPLE, OTHERS, ROWS, SETUP, WRONG, Case, changed
 from places import TOP
+from seals import SEAL
 
 
 class Shown(Case):
@@ -20,8 +21,7 @@ class Shown(Case):
         self.assertEqual((page.state(), page.text("#proved p")), ("unsure", "It did not run: it needs the set-up."))
         for name, text, state in (("setup.toml", SETUP, "unsure"), ("held.csv", ROWS, "right"), ("sheet.txt", WRONG, "wrong"),
                                   ("sheet.txt", EXAMPLE, "right"), ("held.csv", ROWS.replace("525", "526"), "mismatch"),
-                                  ("held.csv", ROWS, "right"),
-                                  ("setup.toml", SETUP.replace("5000", "5001"), "mismatch")):
+                                  ("held.csv", ROWS, "right"), ("setup.toml", SETUP.replace("5000", "5001"), "mismatch")):
             page.choose((name, text))
             end = {"right": "no other seats follow from these votes", "unsure": "these votes; that they were returned is not checked"}
             self.is_now(state, end.get(state, "sheet wrong"))
@@ -56,13 +56,13 @@ class Shown(Case):
         self.assertEqual((page.state(), page.text("#proved p")), ("unsure", "It did not run: the returns are too long."))
 
     def test_which_page_this_is(self):
-        """Its foot says of which version it is, and how that is found out: by a command, with the sum in README. It shows no sum itself."""
+        """Its foot says which version it is, and how that is found out: by a command, with the sum in README. It shows no sum itself."""
         foot = self.page.text("#which")
         self.assertTrue(foot.startswith(f"Is this the real page of zhcount {(TOP / 'VERSION').read_text().strip()}?"), foot)
         self.assertIn("Compute the SHA-256 of this file, and compare it with one that you did not get together with this page", foot)
         command = re.search(r"Linux: (\w+ \S+)", foot)[1]
-        told = subprocess.run(command.split(), cwd=browser.PAGE.parent, stdout=subprocess.PIPE, text=True, check=True).stdout
-        self.assertIn(f"`{told.split()[0]}`", (TOP / "README.md").read_text())
+        printed = subprocess.run(command.split(), cwd=browser.PAGE.parent, stdout=subprocess.PIPE, text=True, check=True).stdout
+        self.assertIn(f"`{printed.split()[0]}`", (TOP / "README.md").read_text())
         self.assertEqual(re.findall("[0-9a-f]{8,}", self.page.text("body")), [])
 
     def another(self, text):
@@ -80,11 +80,13 @@ class Shown(Case):
         self.assertEqual(page.choose(("sheet.txt", WRONG)).state(), "wrong")
 
     def test_the_module_is_taken_out_cut_another_or_forbidden(self):
-        module, text = seals.SEAL.module_in(self.path), self.path.read_text()
-        self.fails_with("its module is missing from this page", self.another(seals.with_module(text, b"")))
-        for other in (module[:-1], module[:1000], b"\0asm\1\0\0\0", b"no module"):
-            with self.subTest(len(other)):
-                self.fails_with(".", self.another(seals.with_module(text, other)))
+        module, text = SEAL.module_in(self.path), self.path.read_text()
+        script = re.search("<script>(.*)</script>", text, re.S)[1]
+        for why, other in (("its module is missing from this page", b""),
+                           *((".", it) for it in (module[:-1], module[:1000], b"\0asm\1\0\0\0", b"no module"))):
+            changed_script = SEAL.MODULE.sub(f"const MODULE = '{base64.b64encode(other).decode()}';", script)
+            hashed = (SEAL.hashed(it) for it in (script, changed_script))
+            self.fails_with(why, self.another(text.replace(script, changed_script).replace(*hashed)))
         self.fails_with(".", self.another(changed(text, " 'wasm-unsafe-eval'", "")))
 
     def test_what_the_browser_has_not(self):
@@ -96,25 +98,22 @@ class Shown(Case):
                                 const first = setTimeout;
                                 window.setTimeout = (call, time) => first(call, time === 60000 ? 0 : time);
                             """)):
-            with self.subTest(before):
-                self.fails_with(why, before=before)
+            self.fails_with(why, before=before)
 
     def test_without_a_worker_it_runs_in_the_page(self):
         self.another(changed(self.path.read_text(), "worker-src blob:", "worker-src 'none'")).sheet(EXAMPLE, *OTHERS)
         self.bar_is("right", "✓ Right")
-        page = self.page.sheet(WRONG, SETUP, before="Worker = class { constructor() { throw new Error('none'); } }")
-        self.assertEqual(page.state(), "wrong")
-        self.assertTrue(page.text("#proved pre").endswith("sheet wrong"))
+        self.page.sheet(WRONG, SETUP, before="Worker = class { constructor() { throw new Error('none'); } }")
+        self.is_now("wrong", "sheet wrong")
 
     def test_the_page_itself_fails(self):
         """No verdict of the files before stays."""
         for part in ("judge", "showBar", "seatsTable"):
-            with self.subTest(part):
-                page = self.page.sheet(EXAMPLE, *OTHERS)
-                self.assertEqual(page.state(), "right")
-                page.run(f"{part} = () => {{ throw new Error('a fault') }}")
-                page.choose(("sheet.txt", WRONG))
-                self.bar_is("unsure", "! This page failed: no verdict")
-                self.assertEqual(page.own(), "failed")
-                self.assertEqual(page.text("#why"), "Nothing that it said of these files counts: Error: a fault")
-                self.assertEqual(page.texts("#ticks li, #shown section, #signatures p"), [])
+            page = self.page.sheet(EXAMPLE, *OTHERS)
+            self.assertEqual(page.state(), "right")
+            page.run(f"{part} = () => {{ throw new Error('a fault') }}")
+            page.choose(("sheet.txt", WRONG))
+            self.bar_is("unsure", "! This page failed: no verdict")
+            self.assertEqual(page.bar(), ("failed", "unsure"))
+            self.assertEqual(page.text("#why"), "Nothing that it said of these files counts: Error: a fault")
+            self.assertEqual(page.texts("#ticks li, #shown section, #signatures p"), [])
