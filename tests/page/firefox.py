@@ -1,14 +1,15 @@
 """Firefox without a window, to which selenium speaks by Firefox's own Marionette: Debian has no geckodriver."""
+import itertools
 import json
 import pathlib
 import shutil
 import socket
 import subprocess
 import tempfile
-import time
 
 from selenium import webdriver
 from selenium.webdriver.remote.file_detector import UselessFileDetector
+from selenium.webdriver.support.ui import WebDriverWait
 
 from browser import PATIENCE
 
@@ -18,7 +19,7 @@ PREFS = {
     "network.captive-portal-service.enabled": False, "datareporting.policy.dataSubmissionEnabled": False,
     "toolkit.telemetry.reportingpolicy.firstRun": False,
 }
-# Commands of selenium that Marionette calls otherwise.
+# Commands of selenium that have other names in Marionette.
 COMMANDS = {"quit": "Marionette:Quit", "get": "WebDriver:Navigate", "sendKeysToElement": "WebDriver:ElementSendKeys",
             "clickElement": "WebDriver:ElementClick", "isElementDisplayed": "WebDriver:IsElementDisplayed",
             "w3cExecuteScript": "WebDriver:ExecuteScript", "w3cExecuteScriptAsync": "WebDriver:ExecuteAsyncScript"}
@@ -29,32 +30,26 @@ class Marionette:
 
     def __init__(self):
         self.profile = pathlib.Path(tempfile.mkdtemp())
-        prefs = [f"user_pref({json.dumps(name)}, {json.dumps(value)});" for name, value in PREFS.items()]
-        (self.profile / "user.js").write_text("\n".join(prefs) + "\n")
+        prefs = [f"user_pref({json.dumps(name)}, {json.dumps(value)});\n" for name, value in PREFS.items()]
+        (self.profile / "user.js").write_text("".join(prefs))
         self.process = subprocess.Popen(
             [FIREFOX, "--headless", "--marionette", "--no-remote", "--profile", str(self.profile)],
             stdout=subprocess.DEVNULL, stderr=subprocess.DEVNULL, env={"HOME": str(self.profile), "MOZ_HEADLESS": "1"})
-        self.stream = socket.create_connection(("127.0.0.1", self.port()), PATIENCE).makefile("rwb")
+        port = WebDriverWait(self.process, PATIENCE, poll_frequency=0.1).until(self.port)
+        self.stream = socket.create_connection(("127.0.0.1", port), PATIENCE).makefile("rwb")
         self.number = 0
         self.message()
 
-    def port(self):
-        """The port that it listens on, which it writes into its profile."""
+    def port(self, process):
+        """The port that it listens on, once it has written it into its profile."""
+        assert process.poll() is None, "Firefox did not start"
         file = self.profile / "MarionetteActivePort"
-        for _ in range(10 * PATIENCE):
-            if file.exists() and file.read_text().strip():
-                return int(file.read_text())
-            if self.process.poll() is not None:
-                break
-            time.sleep(0.1)
-        raise AssertionError("Firefox did not start")
+        return file.exists() and int(file.read_text() or 0)
 
     def message(self):
         """The next message: its length in digits, a colon, and JSON."""
-        digits = b""
-        while (digit := self.stream.read(1)) not in (b":", b""):
-            digits += digit
-        return json.loads(self.stream.read(int(digits)))
+        digits = itertools.takewhile(bytes.isdigit, iter(lambda: self.stream.read(1), b""))
+        return json.loads(self.stream.read(int(b"".join(digits))))
 
     def execute(self, command, parameters):
         """What the browser answers to a command. A script, which has arguments, runs among those of the page."""

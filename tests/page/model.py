@@ -1,5 +1,5 @@
-"""Elections made up for the tests, and their sheets: an independent model of STATUTE and FORMATS in exact fractions. Its
-divisors are found by its own search, and are others than the office's; a sheet is as right with them."""
+"""Elections made up for the tests, and their sheets: an independent model of STATUTE and FORMATS in exact fractions. It finds divisors by
+a search of its own, so that they differ from the office's; a sheet is as right with them."""
 import random
 from fractions import Fraction
 
@@ -9,19 +9,17 @@ MILLION = 1_000_000
 def fit(weights, total):
     """The seats of these weights, given one by one to whom the next is worth most, and their key."""
     seats = [0] * len(weights)
+
+    def following():
+        return max(range(len(weights)), key=lambda i: Fraction(weights[i], 2 * seats[i] + 1))
+
     for _ in range(total):
-        best = max(range(len(weights)), key=lambda i: Fraction(weights[i], 2 * seats[i] + 1))
-        seats[best] += 1
-    a, b = key(weights, seats)
+        seats[following()] += 1
+    last = min((i for i in range(len(weights)) if seats[i]), key=lambda i: Fraction(weights[i], 2 * seats[i] - 1))
+    a, b = weights[last] + weights[following()], seats[last] + seats[following()]
     if any(abs(Fraction(w * b, a) - s) >= Fraction(1, 2) for w, s in zip(weights, seats)):
         raise ValueError("the seats are tied, so there is no sheet")
-    return seats, (a, b)
-
-
-def key(weights, seats):
-    last = min((i for i in range(len(weights)) if seats[i]), key=lambda i: (Fraction(weights[i], 2 * seats[i] - 1), i))
-    following = min(range(len(weights)), key=lambda i: (-Fraction(weights[i], 2 * seats[i] + 1), i))
-    return weights[last] + weights[following], seats[last] + seats[following]
+    return seats, f"{a}/{b}"
 
 
 def step(quotients, total):
@@ -35,7 +33,7 @@ def divisors(votes, rows, columns):
     x, y = [1.0] * len(rows), [1.0] * len(columns)
     for _ in range(2000):
         x = [step([v / b for v, b in zip(row, y)], seats) for row, seats in zip(votes, rows)]
-        y = [step([votes[d][g] / x[d] for d in range(len(rows))], seats) for g, seats in enumerate(columns)]
+        y = [step([v / a for v, a in zip(column, x)], seats) for column, seats in zip(zip(*votes), columns)]
         scaled = [round(a * MILLION) for a in x], [round(b * MILLION) for b in y]
         if is_right(votes, rows, columns, *scaled):
             return scaled
@@ -68,17 +66,16 @@ class Election:
             lines += ["[[constituency]]", f'name = "{name}"', f"persons = {persons}"]
         for d, name in enumerate(self.names):
             lines += ["[[municipality]]", f'name = "{name}"', f"constituency = {d + 1}"]
-        for g, name in enumerate(self.groups):
-            stands = [d + 1 for d in range(len(self.persons)) if self.votes[d][g] is not None]
-            lines += ["[[group]]", f'name = "{name}"', f"stands = {stands}"]
+        for name, votes in zip(self.groups, zip(*self.votes)):
+            lines += ["[[group]]", f'name = "{name}"', f"stands = {[d for d, v in enumerate(votes, 1) if v is not None]}"]
         return "\n".join(lines) + "\n"
 
     def held(self):
-        rows = [f"{d + 1},{g + 1},1,{v}" for d, row in enumerate(self.votes) for g, v in enumerate(row) if v is not None]
+        rows = [f"{d},{g},1,{v}" for d, row in enumerate(self.votes, 1) for g, v in enumerate(row, 1) if v is not None]
         return "\n".join(["municipality,list,number,votes"] + rows) + "\n"
 
     def files(self, **more):
-        """The sheet, the set-up, and the rows held."""
+        """The sheet, the set-up, and the returns."""
         return self.sheet(**more), self.setup(), self.held()
 
     def takes_part(self, g):
@@ -98,7 +95,7 @@ class Election:
         question = [[row[g] or 0 for g in columns] for row in self.votes]
         x, y = divisors(question, seats, [upper[g] for g in columns])
         lower = seats_by(question, x, y)
-        lines = [f"1 sheet {kind} {commands}", f"house {self.house}", "seats key %d/%d" % seats_key, "upper key %d/%d" % upper_key]
+        lines = [f"1 sheet {kind} {commands}", f"house {self.house}", f"seats key {seats_key}", f"upper key {upper_key}"]
         lines += [f"quorum canton {self.quorum}"] if self.quorum else []
         for d, name in enumerate(self.names):
             total = sum(v or 0 for v in self.votes[d])

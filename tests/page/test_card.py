@@ -1,4 +1,4 @@
-"""The card for a desk: its dialogue and its table have what a desk shows, and its two sides the same."""
+"""The card for a desk: its dialogue and its table have what a desk shows, and its two sides say the same."""
 import html
 import re
 import subprocess
@@ -8,7 +8,7 @@ from places import TOP
 from room import Room
 
 SIDES = dict(re.findall(r'<section lang="(\w+)">(.*?)</section>', (TOP / "page" / "card.html").read_text(), re.S))
-# How what zhcount-desk shows begins, of itself or of the office, where somebody has to do something.
+# How the lines of zhcount-desk begin after which somebody has to do something.
 MESSAGES = ("the office has ended: ", "no answer yet", "a batch is open; ", "the batch is dropped, ", "not sent, ",
             "another connection has this desk")
 # Refusals that no desk gets: of a line without a desk, of a file, and of more commands than can come.
@@ -36,11 +36,11 @@ def test_what_a_desk_shows_has_a_row():
     """The reasons of refusals in MANUAL's table of answers, and what zhcount-desk says itself."""
     source = "".join((TOP / "desks" / it).read_text() for it in ("zhcount-desk", "zhcount_connections.py"))
     table = (TOP / "docs" / "MANUAL.md").read_text().partition("\n## Answers")[2].partition("\n## ")[0]
-    answers = re.findall(r"^\| `([a-z-]+(?: [a-z]{2,})?)(?: [a-zA-Z](?: g)?)?` \|", table, re.M)
+    answers = re.findall(r"^\| `([a-z-]+)[^`|]*` \|", table, re.M)
     for side in SIDES.values():
         cells = re.findall("<td><code>refused (.*?)</td>", side)
         named = {name.split(" ")[0] for cell in cells for name in re.sub("<[^>]*>", "", cell).split(", ")}
-        assert {it.split(" ")[0] for it in answers[answers.index("syntax"):]} - OTHERS <= named
+        assert {*answers[answers.index("syntax"):]} - OTHERS <= named
         for message in MESSAGES:
             assert message in source and message in seen(side)
 

@@ -1,13 +1,12 @@
 """Colours that a reader chooses for groups, which the address keeps."""
 from selenium.webdriver.common.keys import Keys
 
-from case import EXAMPLE, LARGEST, ROWS, SETUP, Case
+from case import EXAMPLE, LARGEST, OTHERS, Case
 from test_sight import contrast
 
 RED, YELLOW = "rgb(227, 6, 19)", "rgb(255, 237, 0)"
-SO_FAR = (None, SETUP, ROWS)
-VALUES = "return [...document.querySelectorAll('#colours input')].map((one) => one.value)"
-# What has no colour: only a number of a group and a colour of six digits count.
+SO_FAR = (None, *OTHERS)
+# Addresses without a colour: only a number of a group and a colour of six digits count.
 NONE = ("#x", "#0=e30613", "#33=e30613", "#2=red", "#2=e3061", "#2=e30613}body{display:none", "#2", "#__proto__=e30613")
 
 
@@ -39,12 +38,13 @@ class Chosen:
         for css in (".arc g:nth-of-type(2) .seat", ".legend li:nth-child(2) .seat", "#seats thead th:nth-child(3) .seat"):
             self.assertEqual(set(self.fills(css)), {RED}, css)
         self.assertNotIn(RED, self.fills(".arc g:nth-of-type(1) .seat"))
-        page.run("document.getElementById('colours').open = true; [...document.querySelectorAll('#colours button')][0].click()")
+        page.run("find('colours').open = true; find('colours').querySelector('button').click()")
         self.assertEqual((page.run("return location.hash"), self.fills(".arc g:nth-of-type(2) .seat")), ("", before))
 
         self.at("#2=E30613&1=ffed00", *SO_FAR)
         self.assertEqual(self.fills("#votes-so-far .part")[:2], [YELLOW, RED])
-        self.assertEqual(page.run(VALUES), ["#ffed00", "#e30613", "#009e73"])
+        self.assertEqual(page.run("return [...document.querySelectorAll('#colours input')].map((one) => one.value)"),
+                         ["#ffed00", "#e30613", "#009e73"])
         page.run("location.hash = '#3=e30613'")
         page.wait("return document.querySelectorAll('#colours input')[2].value === '#e30613'")
         self.assertEqual(self.fills("#votes-so-far .part")[2], RED)
@@ -53,14 +53,13 @@ class Chosen:
 class Colours(Chosen, Case):
     def test_another_address_has_no_colours(self):
         for address in NONE:
-            with self.subTest(address):
-                page = self.at(address, *SO_FAR)
-                rules = page.run("return [...document.styleSheets[0].cssRules].map((it) => it.selectorText ?? '')")
-                self.assertEqual([it for it in rules if it.startswith(".group")], [])
-                self.assertIn("9 of 9 returns are in.", page.text("#so-far"))
+            page = self.at(address, *SO_FAR)
+            rules = page.run("return [...document.styleSheets[0].cssRules].map((it) => it.selectorText ?? '')")
+            self.assertEqual([it for it in rules if it.startswith(".group")], [], address)
+            self.assertIn("9 of 9 returns are in.", page.text("#so-far"))
 
     def test_the_part_stays_open(self):
-        """All is made anew by another language, and the focus is where it was. The keyboard is enough."""
+        """In another language too, with the focus where it was. The keyboard is enough."""
         page = self.at("", *SO_FAR)
         page.run("document.querySelector('#colours summary').focus()")
         page.press(Keys.ENTER, Keys.TAB)
@@ -80,12 +79,11 @@ class Colours(Chosen, Case):
         for scheme in ("light", "dark"):
             self.has_medium(scheme=scheme)
             ground = page.one("body").value_of_css_property("background-color")
-            found = page.run("""
+            for on, fill, stroke in page.run("""
                 const styles = (css) => [...document.querySelectorAll(`.legend ${css}`)].map((one) => getComputedStyle(one));
                 return styles('.number').map(({ fill }, i) => [fill, styles('.seat')[i].fill, styles('.seat')[i].stroke]);
-            """)
-            for colour, (on, fill, stroke) in zip(colours, found):
-                self.assertGreaterEqual(contrast(stroke, ground), 3, (colour, scheme))
-                self.assertGreaterEqual(contrast(on, fill), 4.5, (colour, scheme))
-        self.at("#1=b00020", EXAMPLE, SETUP, ROWS).proved("right")
+            """)[:len(colours)]:
+                self.assertGreaterEqual(contrast(stroke, ground), 3, (fill, scheme))
+                self.assertGreaterEqual(contrast(on, fill), 4.5, (fill, scheme))
+        self.at("#1=b00020", EXAMPLE, *OTHERS).proved("right")
         self.bar_is("right", "✓ Right")

@@ -10,21 +10,21 @@ from seals import SEAL
 NOTE = {"sources": "a", "64-bit": "b", "module": "c", "binaryen": "108"}
 
 
-def passes(command):
-    ran = subprocess.run(command.split(), cwd=TOP, stdin=subprocess.DEVNULL, stdout=subprocess.PIPE, stderr=subprocess.STDOUT, text=True)
+def passes(*command):
+    ran = subprocess.run(command, cwd=TOP, stdin=subprocess.DEVNULL, stdout=subprocess.PIPE, stderr=subprocess.STDOUT, text=True)
     assert ran.returncode == 0, ran.stdout
 
 
 @pytest.mark.sources
 @pytest.mark.parametrize("what", ["--check", "--check-sources"])
 def test_page(what):
-    passes(f"page/seal {what}")
+    passes("page/seal", what)
 
 
 @pytest.mark.long
 def test_module(program):
-    """It is made anew, over the libraries that stand below the program."""
-    passes("page/seal --check-module")
+    """It is made anew, over the libraries below the program."""
+    passes("page/seal", "--check-module")
 
 
 def test_card():

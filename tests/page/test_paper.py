@@ -4,6 +4,7 @@ import hashlib
 import re
 
 import model
+from browser import NAMES
 from case import EXAMPLE, LARGEST, ROWS, SETUP, WRONG_KEY, Case
 from sheets import ZURICH
 
@@ -12,10 +13,10 @@ CALLED, FEW = "The sheet calls itself “final”", "".join(ROWS.splitlines(keep
 
 class Paper(Case):
     def printed(self, *files, proved="absent", pages=1):
-        """What is on paper, which is A4."""
+        """The text on paper, which is A4, on this number of pages if one is given."""
         page = self.page.show(*files).proved(proved)
         pdf = base64.b64decode(self.driver.execute_cdp_cmd("Page.printToPDF", {"preferCSSPageSize": True})["data"])
-        if pages is not None:
+        if pages:
             self.assertEqual(len(re.findall(rb"/Type\s*/Page\b", pdf)), pages)
         *_, width, height = re.search(rb"/MediaBox\s*\[([^\]]*)\]", pdf)[1].split()
         self.assertAlmostEqual(float(width), 595, delta=2)
@@ -32,7 +33,7 @@ class Paper(Case):
             self.assertIn(part, text)
         self.assertEqual(text.count("Signature"), 2)
         self.assertNotRegex(text, "Choose|Deutsch")
-        for name, content in zip(("sheet.txt", "setup.toml", "held.csv"), ZURICH):
+        for name, content in zip(NAMES, ZURICH):
             self.assertIn(f"{name} {hashlib.sha256(content.encode()).hexdigest()}", text)
 
     def test_what_is_not_right_is_not_to_be_signed(self):
@@ -43,12 +44,11 @@ class Paper(Case):
                 (ZURICH.sheet, ZURICH[1:2], "right", "right for the votes on the sheet"),
                 (ZURICH.sheet, (), "alone", "the seats fit the votes on the sheet"),
                 (WRONG_KEY, (), "absent", "Wrong: a key; the seats are right")):
-            with self.subTest(said, files=len(others)):
-                text = self.printed(sheet, *others, proved=proved)
-                self.assertNotRegex(text, "Signature|Place|Date")
-                self.assertIn(said, text)
-                self.assertIn(CALLED, text)
-                self.assertEqual("setup.toml" in text, bool(others))
+            text = self.printed(sheet, *others, proved=proved)
+            self.assertNotRegex(text, "Signature|Place|Date")
+            self.assertIn(said, text)
+            self.assertIn(CALLED, text)
+            self.assertEqual("setup.toml" in text, bool(others))
 
     def test_before_there_are_seats(self):
         """On one page, with the files and without what is for a screen."""
@@ -64,11 +64,10 @@ class Paper(Case):
         for rows, columns in ((18, 9), (20, 20), (12, 12)):
             self.printed(*model.made_up(5, rows, columns, 180, quorum=1).files(), proved="right")
         for rows, columns in ((4, 4), (6, 6), (7, 10), (10, 7), (12, 12), (18, 11), (20, 13), (32, 6), (6, 32), (32, 32)):
-            with self.subTest(rows=rows, columns=columns):
-                sheet, setup, held = model.made_up(1, rows, columns, 400 if rows == columns == 32 else 180, quorum=1,
-                                                   groups=[f"Group with the longest name of all no {g:02d}" for g in range(columns)],
-                                                   names=[f"Constituency with the longest name no {d:02d}" for d in range(rows)]).files()
-                self.printed(sheet, setup, held, proved="right")
+            sheet, setup, held = model.made_up(1, rows, columns, 400 if rows == columns == 32 else 180, quorum=1,
+                                               groups=[f"Group with the longest name of all no {g:02d}" for g in range(columns)],
+                                               names=[f"Constituency with the longest name no {d:02d}" for d in range(rows)]).files()
+            self.printed(sheet, setup, held, proved="right")
         self.printed(sheet.replace("persons", "person"), setup)
         # Hundreds of faults are on paper too, each of them, on more pages.
         text = self.printed(re.sub(r"seats 1$", "seats 2", sheet, flags=re.M), setup + "x\n", pages=None)

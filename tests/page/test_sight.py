@@ -7,7 +7,8 @@ import model
 from case import EXAMPLE, LARGEST, OTHERS, ROWS, SETUP, WRONG_KEY, Case, changed
 from sheets import ZURICH
 
-TURNED, HEBREW = "\u202eX 11", "\u05d0\u05d1 11"
+# Names that turn a text round, and how they are shown.
+NAMES = {"\u202eX 11": "<U+202E>X 11", "\u05d0\u05d1 11": "\u05d0\u05d1 11"}
 
 
 def luminance(colour):
@@ -21,24 +22,24 @@ def contrast(one, other):
 
 
 class Sight(Case):
-    def outside(self, name):
-        """Where this name stands outside of elements that isolate it, and in an attribute without the characters that do so."""
+    def is_isolated(self, name):
+        """The page has this name only in elements that isolate it, or in an attribute with the characters that do so."""
         whole = self.page.run("return [...document.body.children].map((it) => (it.tagName === 'SCRIPT' ? '' : it.outerHTML)).join('')")
         self.assertNotIn("\u202e", whole)
         text = html.unescape(re.sub("<bdi\\b.*?</bdi>", "", whole)).replace(f"\u2068{name}\u2069", "")
-        return re.findall(f".{{0,30}}{re.escape(name)}", text)
+        self.assertEqual(re.findall(f".{{0,30}}{re.escape(name)}", text), [])
 
     def test_names_are_isolated(self):
         other = changed(EXAMPLE, "votes 525", "votes 526")
-        for (name, seen), old in itertools.product(((TURNED, "<U+202E>X 11"), (HEBREW, HEBREW)), ("Nord", "1.000000 A")):
+        for (name, seen), old in itertools.product(NAMES.items(), ("Nord", "1.000000 A")):
             sheet = changed(EXAMPLE, old, f"1.000000 {name}" if old != "Nord" else name)
             for files in ((sheet,), (sheet, SETUP), (sheet, SETUP.replace('"A"', f'"{name}"'), ROWS)):
                 page = self.page.show(*files)
-                for css in ("#seats tbody th button", "#seats thead button", "#seats tbody td button"):
-                    page.run("document.querySelector(arguments[0]).click()", css)
-                    self.assertEqual(self.outside(seen), [])
+                for row, column in ((1, 0), (0, 1), (1, 1)):
+                    page.cell(row, column)
+                    self.is_isolated(seen)
                 page.run("takeFiles([opened('other', new TextEncoder().encode(arguments[0]))])", other)
-                self.assertEqual(self.outside(seen), [])
+                self.is_isolated(seen)
         self.assertEqual(self.page.open().choose(("a\u202etxt.toml", EXAMPLE)).text(".had .file bdi"), "a<U+202E>txt.toml")
 
     def test_edges_of_seats(self):
@@ -64,10 +65,10 @@ class Sight(Case):
         for files in (ZURICH[:2], LARGEST.files()[:2]):
             page = self.page.show(*files)
             self.assertIn("The table goes on: scroll it.", page.text("#scrolls"))
-            page.run("document.getElementById('seats-part').scrollIntoView({ block: 'end' })")
+            page.run("find('seats-part').scrollIntoView({ block: 'end' })")
             for left, top in ((0, 0), (90, 60), (99999, 99999)):
                 box, right, foot, name = page.run("""
-                    document.getElementById('seats-part').scrollTo(...arguments);
+                    find('seats-part').scrollTo(...arguments);
                     return ['#seats-part', '#seats thead .sum', '#seats tfoot th', '#seats .corner'].map(
                       (css) => document.querySelector(css).getBoundingClientRect().toJSON());
                 """, left, top)
@@ -75,11 +76,8 @@ class Sight(Case):
                 self.assertGreaterEqual(right["left"], box["left"])
                 self.assertLessEqual(foot["bottom"], min(box["bottom"] + 1, 668))
                 self.assertGreaterEqual(name["left"], box["left"] - 1)
-            for css in ("#seats tbody th button", "#seats thead button", "#seats tbody td button"):
-                self.assertLessEqual(page.run("""
-                    document.querySelector(arguments[0]).click();
-                    return document.getElementById('detail').offsetHeight;
-                """, css), 667 / 2)
+            for row, column in ((1, 0), (0, 1), (1, 1)):
+                self.assertLessEqual(page.cell(row, column).run("return find('detail').offsetHeight"), 667 / 2)
 
     def test_nothing_is_wider_than_a_phone(self):
         self.has_screen(360, 740, 2, True)
@@ -90,7 +88,7 @@ class Sight(Case):
                 self.assertLessEqual(self.page.show(*files).run("return document.documentElement.scrollWidth"), 360)
 
     def test_words_are_not_broken(self):
-        """No part of a name stands on two lines where no hyphen or blank parts it."""
+        """A name goes on in a new line only after a hyphen or a blank."""
         names = ["Winterthur-Land", "Dietikon und Urdorf", "Bezirk Pfäffikon", "Affoltern", "Horgen, Thalwil und Wädenswil"]
         groups = ["Sozialdemokratische Partei", "Schweizerische Volkspartei", "FDP.Die Liberalen", "Grünliberale Partei",
                   "Eidgenössisch-Demokratische", "Alternative Liste"]
@@ -98,23 +96,16 @@ class Sight(Case):
         for width in (1280, 375):
             self.has_screen(width, 900, 1, False)
             self.assertEqual(self.page.show(sheet).run("""
-                const found = [];
-                const names = '.legend .name bdi, #seats:not(.crowded) .name bdi, #seats tbody .name bdi';
-                for (const name of document.querySelectorAll(names)) {
-                  const text = name.firstChild;
-                  for (const { 0: part, index } of text.data.matchAll(/[^\\s\\u00ad-]+/gu)) {
-                    const rects = (at) => {
-                      const range = document.createRange();
-                      range.setStart(text, at);
-                      range.setEnd(text, at + 1);
-                      return [...range.getClientRects()].filter(({ width }) => width > 0);
-                    };
-                    // A hyphen that is seen belongs to the letter beside it.
-                    const [first, last] = [rects(index).at(-1), rects(index + part.length - 1)[0]];
-                    if (Math.abs(first.top - last.top) > 4) found.push(part);
-                  }
-                }
-                return found;
+                const rects = (text, at) => {
+                  const range = document.createRange();
+                  range.setStart(text, at);
+                  range.setEnd(text, at + 1);
+                  return [...range.getClientRects()].filter(({ width }) => width > 0);
+                };
+                const names = [...document.querySelectorAll('.legend .name bdi, #seats:not(.crowded) .name bdi, #seats tbody .name bdi')];
+                return names.flatMap(({ firstChild: text }) => [...text.data.matchAll(/[^\\s\\u00ad-]+/gu)].filter(({ 0: part, index }) => (
+                  // A hyphen that is seen belongs to the letter beside it.
+                  Math.abs(rects(text, index).at(-1).top - rects(text, index + part.length - 1)[0].top) > 4)).map(([part]) => part));
             """), [])
 
     def test_thousands_are_set_apart(self):
