@@ -1,7 +1,6 @@
-"""What make install and make dist put where, that make uninstall takes it away, the man pages, and OPERATING as it stands."""
+"""What make install and make dist put where, that make uninstall takes it away, the man pages, and the commands of OPERATING."""
 import filecmp
 import os
-import pathlib
 import re
 import shutil
 import subprocess
@@ -12,18 +11,8 @@ from pages.cited import lost_links
 from places import PROGRAM, TOP
 
 VERSION = (TOP / "VERSION").read_text().strip()
-NAMES = ("zhcount", "zhcount-desk", "zhcount-office", "zhcount-read", "zhcount-witness")
-PAGES = ("BRIEF CHANGELOG CHECKING DECISIONS DEFINITIONS FAQ FOLDER FORMATS MANUAL NIGHT OPERATING PROVED README STATUTE "
-         "de/BRIEF de/CHECKING de/NIGHT")
-FILES = {
-    "bin": NAMES,
-    "share/man/man1": [f"{it}.1" for it in NAMES],
-    "share/doc/zhcount": [f"{it}.md" for it in PAGES.split()] + "night.svg page.png stops.svg de/night.svg de/page.png".split(),
-    "share/examples/zhcount": "canton.toml rehearsal.toml zhcount-office.service zurich2006.toml".split(),
-    "share/examples/zhcount/zurich2006": "forged held.csv setup.toml sheet".split(),
-    "share/zhcount": ["card.html", "index.html", *(f"zhcount_{it}.py" for it in (
-        "connections", "log", "names", "now", "program", "replay", "state", "stream", "tables", "witness"))],
-}
+ARCHIVE = TOP / f"out/zhcount-{VERSION}.tar.gz"
+FILES = (TOP / "tests/installed/files.txt").read_text().split()
 
 
 def ran(*words, **options):
@@ -63,23 +52,18 @@ def there(tmp_path_factory):
 
 
 @pytest.fixture(scope="module")
-def archive(tmp_path_factory):
-    """The archive of make dist."""
+def unpacked(tmp_path_factory):
+    """The folder that is packed in the archive of make dist. A copy of the archive is beside it."""
     make("dist")
-    return pathlib.Path(shutil.copy(TOP / f"out/zhcount-{VERSION}.tar.gz", tmp_path_factory.mktemp("archive")))
-
-
-@pytest.fixture(scope="module")
-def unpacked(archive):
-    shutil.unpack_archive(archive, archive.parent)
-    return archive.parent / f"zhcount-{VERSION}"
+    folder = tmp_path_factory.mktemp("archive")
+    shutil.unpack_archive(shutil.copy(ARCHIVE, folder), folder)
+    return folder / f"zhcount-{VERSION}"
 
 
 def test_all_is_there_and_then_gone(tmp_path):
-    wanted = sorted(f"{folder}/{name}" for folder, names in FILES.items() for name in names)
     for _ in ("first", "again"):
         said = make("install", f"PREFIX={tmp_path}")
-        assert files_below(tmp_path) == wanted
+        assert files_below(tmp_path) == FILES
         assert ran("sha256sum", tmp_path / "share/zhcount/index.html").stdout.split()[0] in said.splitlines()
     assert filecmp.cmp(TOP / "page/index.html", tmp_path / "share/zhcount/index.html", shallow=False)
     for _ in ("first", "again"):
@@ -104,21 +88,9 @@ def test_what_is_no_place_or_no_program_is_refused(tmp_path, prefix, program):
     assert not (tmp_path / "bad").exists()
 
 
-@pytest.mark.parametrize("words, text", [
-    ("zhcount --help", "The count office of a cantonal parliament"),
-    ("zhcount-desk 9", r"zhcount-desk N \[FOLDER\]"),
-    ("zhcount-desk 3 /none", "no office is running in .*none yet"),
-    ("zhcount-office", "zhcount-office .*SETUP DISK FOLDER"),
-    ("zhcount-read", "zhcount-read DISK"),
-    ("zhcount-witness", "zhcount-witness FOLDER"),
-])
-def test_each_program_says_how_it_is_called_or_what_it_waits_for(there, words, text):
-    until_then = 'timeout 300 "$@" 2>&1 | grep -E -m 1 -- "$0"'
-    assert ran("sh", "-c", until_then, text, *f"{there}/bin/{words}".split()).stdout
-
-
 def test_unit_and_pages_name_what_was_installed(there):
     assert names_in_unit(there) == [str(there)] * 2
+    assert f".TP\n{there}/share/doc/zhcount\nManuals: MANUAL.md first" in man(there, "zhcount")
     assert "share/examples/zhcount`, beside" in (there / "share/doc/zhcount/MANUAL.md").read_text()
     assert [*lost_links(there)] == []
 
@@ -131,16 +103,12 @@ def test_unit_and_pages_name_what_was_installed(there):
     ("zhcount", "2", "the arguments ask for no task"),
     ("zhcount", "disk busy", "Another program is using the disk"),
     ("zhcount", "sheet file, held file", "can't be opened or read"),
-    ("zhcount", "THERE/share/doc/zhcount", "Manuals: MANUAL.md first"),
     ("zhcount-desk", "1", "Something was not sent"),
     ("zhcount-office", "zhcount-office --rebuild FOLDER DISK", "makes a lost disk again"),
-    ("zhcount-office", "zhcount-office --replay FOLDER", "runs the lines of a folder's log"),
-    ("zhcount-office", "zhcount-office --take SETUP DISK FOLDER", "begins the log of a new FOLDER"),
     ("zhcount-office", "FOLDER/night.db, FOLDER/night.db-wal", "each line and each answer"),
 ])
 def test_a_man_page_says_what_each_thing_means(there, page, name, text):
-    entry = re.escape(name.replace("THERE", str(there)))
-    assert re.search(rf"^\.TP\n{entry}\n.*{re.escape(text)}", man(there, page), re.M)
+    assert re.search(rf"^\.TP\n{re.escape(name)}\n.*{re.escape(text)}", man(there, page), re.M)
 
 
 def test_the_man_page_has_each_task_answer_and_fault_of_the_pages(there):
@@ -157,7 +125,7 @@ def test_the_man_page_has_each_task_answer_and_fault_of_the_pages(there):
             "zhcount format --setup setup.toml --disk night.disk"} <= set(text.splitlines())
 
 
-@pytest.mark.parametrize("name", NAMES)
+@pytest.mark.parametrize("name", [it[4:] for it in FILES if it.startswith("bin/")])
 def test_a_man_page_is_whole(there, name):
     text = man(there, name)
     assert text.startswith(f'.TH {name.upper()} 1 "" "zhcount {VERSION}" "User Commands"\n')
@@ -169,41 +137,41 @@ def test_a_man_page_is_whole(there, name):
         assert ran(*words, stdout=subprocess.DEVNULL, stderr=subprocess.PIPE, env=wide).stderr == ""
 
 
-def test_the_archive_has_what_is_installed_with_its_sums(archive, unpacked):
+def test_the_archive_has_what_is_installed_with_its_sums(unpacked):
     assert ran("sha256sum", "--quiet", "-c", "SHA256SUMS", cwd=unpacked).stdout == ""
     summed = [line[66:] for line in (unpacked / "SHA256SUMS").read_text().splitlines()]
     assert sorted(["SHA256SUMS", *summed]) == files_below(unpacked)
     assert [*lost_links(unpacked)] == [] and names_in_unit(unpacked) == ["/usr/local"] * 2
     assert "\n## Install\n" in (unpacked / "share/doc/zhcount/OPERATING.md").read_text()
     assert ran("sh", "-c", "umask 077; make -s dist").returncode == 0
-    assert filecmp.cmp(TOP / "out" / archive.name, archive, shallow=False)
+    assert filecmp.cmp(ARCHIVE, f"{unpacked}.tar.gz", shallow=False)
 
 
-def test_what_the_archive_has_needs_nothing_else(unpacked, tmp_path):
+def test_programs_of_the_archive_need_nothing_else(unpacked, tmp_path):
     tried = ran("sh", "-ec", f"""
         setup={unpacked}/share/examples/zhcount/canton.toml
         zhcount format --setup $setup --disk disk
-        zhcount-office $setup disk office & office=$!
+        zhcount-office --witness "zhcount-witness copy" $setup disk office & office=$!
         echo "return 180 1 1 525" | timeout 300 zhcount-desk 3 office
         kill $office; wait $office
-        zhcount-read disk""", cwd=tmp_path, env={"PATH": f"{unpacked}/bin:/usr/bin:/bin"})
+        zhcount-read disk
+        ls copy/night.db""", cwd=tmp_path, env={"PATH": f"{unpacked}/bin:/usr/bin:/bin"})
     assert tried.returncode == 0, tried.stdout
     assert {"stored 1", "180,1,1,525"} <= set(tried.stdout.splitlines())
 
 
 def test_keys_of_desks_let_in_the_desks_user_alone():
-    """On the second machine too: whoever types as a desk is never the user who owns disk and log."""
+    """Also on the second machine: whoever types at a desk is never the user who owns disk and log."""
     page = (TOP / "docs/OPERATING.md").read_text()
-    found = re.findall(r"`(/\S+)/\.ssh/authorized_keys`(?:(?!authorized_keys`)[\s\S])*?command=\"(zhcount-\w+)", page)
-    assert found == [("/home/desk", "zhcount-desk"), ("/var/lib/zhcount", "zhcount-witness")]
-    # (and a second key of the desks, for tables)
-    assert re.findall('command="(zhcount-\\w+)', page) == ["zhcount-desk", "zhcount-desk", "zhcount-witness"]
+    found = re.findall(r"`(/\S+)/\.ssh/authorized_keys`|command=\"([\w-]+)", page)
+    assert ["".join(it) for it in found] == ["/home/desk", "zhcount-desk", "zhcount-desk", "/var/lib/zhcount", "zhcount-witness",
+                                             "/home/lead", "cat"]
     assert "Create the same [users](#users)" in page.split("\n## A second machine\n")[1].split("\n## ")[0]
 
 
 @pytest.mark.skipif(os.getuid() != 0, reason="only root may make users and mount")
-def test_what_operating_says_works_as_it_stands(archive):
-    typed = ran(TOP / "tests/installed/operate", archive, timeout=3600)
+def test_what_operating_says_works(unpacked):
+    typed = ran(TOP / "tests/installed/operate", f"{unpacked}.tar.gz", timeout=3600)
     assert typed.returncode == 0, typed.stdout
 
 

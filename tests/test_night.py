@@ -67,18 +67,15 @@ def test_night(seed, tmp_path, program):
     status = {it: (tmp_path / f"{it}.status").read_text() for it in ("evening", "stop", "night")}
     with open(tmp_path / "early.votes", newline="") as file:
         early = [(int(it["commands"]), int(it["votes"])) for it in csv.DictReader(file)]
-    first, copied = early[0][0], int(re.search(r"(\d+) commands;", status["evening"])[1])
-    at_copy, done = {}, []
+    first, second = early[0][0], int(re.search(r"(\d+) commands;", status["evening"])[1])
+    at_copy = {}  # what the office has after as many commands as a copy: its status, and the votes of each group
     for commands in compared(office, tmp_path, "evening"):
-        done.append(commands)
-        if commands in (first, copied):
-            at_copy.setdefault(commands, (office.status(), [sum(it or 0 for it in votes) for votes in zip(*votes_in(office))]))
-    assert early == [(first, votes) for votes in at_copy[first][1]]
-    assert 0 < sum(votes for _, votes in early) < sum(office.canton.votes.values()) / 10
-    assert done[len(done) - len(done) // 2 - 1] <= copied
-    assert status["evening"] == at_copy[copied][0]
+        if commands in (first, second) and commands not in at_copy:
+            at_copy[commands] = office.status(), [sum(it or 0 for it in votes) for votes in zip(*votes_in(office))]
+    assert early == [(first, votes) for votes in at_copy[first][1]] and status["evening"] == at_copy[second][0]
+    assert 0 < 3 * first < second <= office.commands
     assert status["stop"] == office.status()
-    office.stop()
+    office.batches.clear()  # no desk has a batch after a stop
     assert [*compared(office, tmp_path, "night")] and status["night"] == office.status()
     assert re.search(r"^\d sheet final ", (tmp_path / "night.answers").read_text(), re.M)
     for disk in (tmp_path / "copy.disk", tmp_path / "night.disk"):

@@ -1,8 +1,6 @@
 """Files that are no disks, links, files beside the disk, and what can't be read or made."""
 import os
-import shutil
 import subprocess
-from pathlib import Path
 from typing import Sequence
 
 import pytest
@@ -125,26 +123,20 @@ def test_a_disk_that_is_made_is_for_its_owner_alone(room: Room) -> None:
 
 
 def test_no_permission_for_a_file_or_its_folder(room: Room) -> None:
-    """Without the rights of root: root runs it as another user."""
-    as_other = ["setpriv", "--reuid=65534", "--regid=65534", "--clear-groups"] if os.getuid() == 0 else []
-    if as_other and (not shutil.which("setpriv") or subprocess.run([*as_other, "true"], stderr=subprocess.DEVNULL).returncode):
-        pytest.skip("as root, and no other user can be taken")
-    for it in [room.path, *room.path.parents]:
-        if not it.stat().st_mode & 1:
-            it.chmod(it.stat().st_mode | 0o111)
-    kinds = room.path / "kinds"
-    kinds.chmod(0o755)
-    room.program = Path(shutil.copy(room.program, kinds))
-    room.setup = shutil.copy(room.setup, kinds)
-    Path(room.setup).chmod(0o644)
+    """Root has to run it without the right to pass over permissions."""
+    dropped = "-dac_override,-dac_read_search"
+    before = bash(f'exec setpriv --inh-caps={dropped} --bounding-set={dropped} "$@"' if os.getuid() == 0 else 'exec "$@"')
+    if subprocess.run([*before, "true"], stderr=subprocess.DEVNULL).returncode:
+        pytest.skip("as root, and setpriv can't take the right away")
     room.ends("format --disk denied")
+    (room.path / "kinds").chmod(0o500)
     for name in ("denied", "denied.setup", "denied.sheet"):
         (room.path / name).touch()
         (room.path / name).chmod(0)
     for task, fault, path in (("export --disk denied", "disk device", "denied"), ("format --disk kinds/new", "disk device", "kinds/new"),
                               ("check --sheet denied.sheet", "sheet file", "denied.sheet")):
-        room.ends(task, 1, f"{fault}\n{path}: no permission", before=as_other)
-    room.ends("list --of groups", 1, "setup file\ndenied.setup: no permission", before=as_other, setup="denied.setup")
+        room.ends(task, 1, f"{fault}\n{path}: no permission", before=before)
+    room.ends("list --of groups", 1, "setup file\ndenied.setup: no permission", before=before, setup="denied.setup")
 
 
 def test_a_record_without_an_end_is_refused(disk: Room) -> None:
@@ -170,15 +162,14 @@ def test_a_text_that_can_not_be_read(task: str, fault: str, room: Room) -> None:
     room.ends(task, 1, fault)
 
 
-@pytest.mark.parametrize("table", ["constituencies", "municipalities", "groups", "lists", "problems", "returns"])
 @pytest.mark.parametrize("path, shown", [
     ("none.toml", f"none.toml: {GONE}"), ("kinds", "kinds: is a folder"),
     ("a\tb\nc\x7fd\u0085e\ufefff", f"a?b?c?d?e?f: {GONE}"), ("./d\u00fcr/../x", f"./d\u00fcr/../x: {GONE}"),
     ("x" * 4200, f"{'x' * 4096}: the name is too long"),
 ], ids=["none", "a folder", "control characters", "no control characters", "a long path"])
-def test_a_set_up_that_is_not_there(path: str, shown: str, table: str, room: Room) -> None:
+def test_a_set_up_that_is_not_there(path: str, shown: str, room: Room) -> None:
     """The fault shows its path as it was given."""
-    room.ends(f"list --of {table}", 1, f"setup file\n{shown}", setup=path)
+    room.ends("list --of groups", 1, f"setup file\n{shown}", setup=path)
     assert sorted(os.listdir(room.path)) == ["kinds", "out"]
 
 

@@ -1,13 +1,24 @@
-"""A full volume, and little memory."""
+"""A full volume, and streams that are closed or full."""
 import os
 import subprocess
+from pathlib import Path
 
 import pytest
 
-from real_files import DISK, JOURNAL, PAGE, Room, bash, limited, returns, shows, stored
+from real_files import DISK, JOURNAL, PAGE, Room, bash, returns, shows, stored
 
-# So many returns a file of 340 KiB holds, each a page of the journal.
-PAGES = (340 * 1024 - JOURNAL) // PAGE
+PAGES = (340 * 1024 - JOURNAL) // PAGE  # as many returns as fit in a file of 340 KiB
+ALL = "<&- >&- 2>&-"
+RUN, FORMAT = "run --disk d", "format --disk d"
+
+
+def limited(kibibytes: int) -> tuple:
+    """The words before a command for which no file grows beyond this size: a write there fails."""
+    return bash(f"trap '' XFSZ; ulimit -f {kibibytes}; exec \"$@\"")
+
+
+def redirected(streams: str) -> tuple:
+    return bash(f'exec "$@" {streams}')
 
 
 def test_run_keeps_what_it_acknowledged(disk: Room) -> None:
@@ -17,20 +28,11 @@ def test_run_keeps_what_it_acknowledged(disk: Room) -> None:
     disk.serves("d", returns(1, PAGES, PAGES + 1), f"1 same\n1 stored {PAGES + 1}\n")
 
 
-def test_the_disk_is_full_and_then_the_output(disk: Room) -> None:
-    """The disk fails under a return, and later the output, where its file may not grow either."""
-    lines = returns(1, 1, PAGES + 1) + 20_000 * "1 show 1 1\n"
-    replies = disk.ends("run --disk d", 1, "write", None, lines=lines, before=limited(340))
-    assert len(replies) == 340 * 1024
-    assert replies.splitlines()[PAGES:PAGES + 2] == ["1 refused device", "1 refused reopen-disk"]
-    disk.serves("d", "1 show 1 1\n", shows(PAGES))
-
-
 @pytest.mark.parametrize("length, kibibytes, fault, left", [
     (0, 500, "disk device\nd: a call failed", f"disk size\nd: 0 bytes instead of {DISK}"), (DISK, 200, "disk device\nd", "disk blank\nd"),
 ])
 def test_format_can_be_done_again(length: int, kibibytes: int, fault: str, left: str, room: Room) -> None:
-    """What is left is taken by a format alone, of a new file and of one that has its length."""
+    """Only a format takes what one that failed has left, of a new file and of one that has the length of a disk."""
     if length:
         (room.path / "d").touch()
         os.truncate(room.path / "d", length)
@@ -41,7 +43,7 @@ def test_format_can_be_done_again(length: int, kibibytes: int, fault: str, left:
 
 
 def test_format_takes_the_space_that_a_disk_takes(disk: Room) -> None:
-    """What a stop left whole in length is formatted as it is, and a file of zeros becomes a new disk."""
+    """An empty file gets its blocks. One that has the length of a disk is formatted as it is."""
     (disk.path / "empty").touch()
     disk.ends("format --disk empty")
     assert disk.has_its_space("d") and disk.has_its_space("empty")
@@ -53,7 +55,7 @@ def test_format_takes_the_space_that_a_disk_takes(disk: Room) -> None:
 
 
 def test_format_on_a_small_volume_which_then_grows(room: Room) -> None:
-    """The volume is seen by one process and its children alone. It goes with that process, however this ends."""
+    """Only one process and its children see the volume. It goes with that process, however this ends."""
     path = room.path / "volume"
     path.mkdir()
     command = 'mount -t tmpfs -o size=1m none "$0" && echo mounted && read -r _'
@@ -75,17 +77,30 @@ def test_format_on_a_small_volume_which_then_grows(room: Room) -> None:
         holder.kill()
 
 
-def test_too_little_memory(disk: Room) -> None:
-    """The fault is memory, and the disk is untouched. It is so much that the program can be loaded, but not run."""
-    refused, is_loaded = 0, False
-    with disk.untouched():
-        for kibibytes in range(1000, 20_000, 100):
-            ran = disk.run("run --disk d", lines="1 show 1 1\n", before=bash(f'ulimit -v {kibibytes}; exec "$@"'))
-            if ran.status == 0:
-                break
-            # (127: it could not be loaded. Below that the loader could not, and the system ends such a program before its first step.)
-            is_loaded = is_loaded or ran.status == 127
-            if ran.status != 127 and is_loaded:
-                assert ran == (1, "", "zhcount: memory\n"), f"in {kibibytes} KiB"
-                refused += 1
-    assert (ran.out, refused > 0) == ("1 none\n", True)
+@pytest.mark.parametrize("streams, task, lines, status, fault, replies, held", [
+    (">&-", RUN, "1 show 1 1\n", 1, "write", "", 1), (">/dev/full", RUN, "1 show 1 1\n", 1, "write", "", 1),
+    # a return whose reply can't be written is the last that it holds
+    (">&-", RUN, returns(1, 2, 9), 1, "write", "", 2), (">/dev/full", RUN, returns(1, 2, 9), 1, "write", "", 2),
+    ("<&-", RUN, "", 1, "read", "", 1), ("2>&-", RUN, returns(1, 2, 3), 0, "", stored(2, 3), 3), ("2>&-", FORMAT, "", 1, "", "", 1),
+    (ALL, RUN, "", 1, "", "", 1), (ALL, FORMAT, "", 1, "", "", 1),
+])
+def test_stream(streams: str, task: str, lines: str, status: int, fault: str, replies: str, held: int, disk: Room) -> None:
+    """The fault is write or read, and the disk is whole, or untouched where nothing is stored. It contains a line that a program would take
+    if it read its disk in place of the closed input."""
+    disk.serves("d", returns(1, 1, 1), "1 stored 1\n")
+    with open(disk.path / "d", "r+b") as file:
+        os.pwrite(file.fileno(), b"\n1 return 1 1 2 14\n", 100)
+    before = (disk.path / "d").read_bytes()
+    disk.ends(task, status, fault, replies, lines=lines, before=redirected(streams))
+    assert held > 1 or (disk.path / "d").read_bytes() == before
+    disk.serves("d", "1 show 1 1\n", shows(held))
+
+
+@pytest.mark.parametrize("streams", ["<&-", ">&-", "2>&-", ALL])
+def test_format_makes_a_disk(streams: str, room: Room) -> None:
+    """Also for a set-up with problems, which it reports on standard error."""
+    room.ends(FORMAT, before=redirected(streams))
+    room.serves("d", returns(1, 1, 1), "1 stored 1\n")
+    (room.path / "few.toml").write_text(Path(room.setup).read_text().replace("house = 10", "house = 1"))
+    said = "" if "2>&-" in streams else "problems of the set-up: 2, named by list --of problems"
+    room.ends("format --disk few", fault=said, before=redirected(streams), setup="few.toml")
