@@ -92,13 +92,13 @@ def test_slow_witness():
     """a start waits for a witness that takes seconds. Where each message takes three seconds on its way the first answer waits for a
     bounded time; then the witness is away, as log, folder and desks say, also once it has all, as long as it is slow"""
     with Witnessed(measures=["PATIENCE", "QUICK", "MEETING"]) as room:
-        room.is_slow(1)
+        room.delay.write_text("1")
         room.start()
         assert "no witness" not in room.office.said(), f"it was there first: {room.office.said()}"
-        room.is_slow(0)
+        room.delay.write_text("0")
         desks = [room.desk(number).talk("show 3 3 -> none") for number in range(1, 9)]
         room.has_all()
-        room.is_slow(3)
+        room.delay.write_text("3")
         begun = time.monotonic()
         for line in ("show 1 1\n", "show 2 1\n", "show 3 1\n"):
             for desk in desks:
@@ -109,7 +109,7 @@ def test_slow_witness():
             it.says(IS_AWAY)
         room.has_all()
         stays("it stays away", lambda: room.said_of_it().startswith(IS_AWAY), 15)  # for two answers of it
-        room.is_slow(0)
+        room.delay.write_text("0")
         room.says_of_it(IS_THERE)
         room.check()
 

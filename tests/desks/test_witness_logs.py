@@ -85,7 +85,7 @@ def test_witness_that_lacks_much():
         room.desk(1).end(b"".join(b"\xff" * 117 + b"%04d\n" % number for number in range(500)))
         room.stop()
         room.options = ["--witness", f"sh -c \"tee '{came}' | '{room.command}'\""]
-        room.is_slow(0.4)
+        room.delay.write_text("0.4")
         room.start()
         room.has_all()
         sizes = [len(it) + 1 for it in came.read_bytes().split(b"\n")]

@@ -9,8 +9,8 @@ from processes import until
 from quiet import patient_scripts, quiet_scripts
 from room import SCRIPTS, Room
 
-# A witness that can't be started while the file `away` is there. While `delay` is there, each message takes this many seconds on its way to
-# the witness and on its way back.
+# A witness that can't be started while the file `away` is there. If `delay` is there when it is started, each message takes as many seconds
+# as that says on its way to the witness and on its way back.
 COMMAND = """#!/bin/bash
 slowly() {{ while IFS= read -r line; do sleep "$(cat {delay})"; printf '%s\\n' "$line"; done; }}
 [ -e {away} ] && exit 1
@@ -36,10 +36,6 @@ class Witnessed(Room):
     def __exit__(self, *fault):
         self.signal(signal.SIGCONT)
         super().__exit__(*fault)
-
-    def is_slow(self, seconds):
-        """Has each message take this long; from the next connection on, unless it took a time before."""
-        self.delay.write_text(str(seconds))
 
     def witness(self):
         """The process of the witness; 0 if it does not run."""
