@@ -12,6 +12,8 @@ class Office:
 
     def answer(self, line):
         desk, word, *numbers = line.split()
+        if word in ("row", "commit", "drop") and desk not in self.batches:
+            return f"{desk} refused nobatch"
         return f"{desk} " + getattr(self, "on_" + word)(desk, *map(int, numbers))
 
     def store(self):
@@ -64,8 +66,6 @@ class Office:
         return "held 0"
 
     def on_row(self, desk, municipality, group, number, votes):
-        if desk not in self.batches:
-            return "refused nobatch"
         rows = self.batches[desk]
         if any(row[:2] == (municipality, group) for row in rows):
             return "refused twice"
@@ -73,11 +73,9 @@ class Office:
         return f"held {len(rows)}"
 
     def on_drop(self, desk):
-        return f"dropped {len(self.batches.pop(desk))}" if desk in self.batches else "refused nobatch"
+        return f"dropped {len(self.batches.pop(desk))}"
 
     def on_commit(self, desk):
-        if desk not in self.batches:
-            return "refused nobatch"
         answers = {row: self.judge(*row) for row in self.batches[desk]}
         refusals = [it for it in answers.values() if it.startswith("refused")]
         if refusals:

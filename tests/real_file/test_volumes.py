@@ -1,5 +1,6 @@
 """A full volume, and streams that are closed or full."""
 import os
+import shlex
 import subprocess
 from pathlib import Path
 
@@ -55,26 +56,23 @@ def test_format_takes_the_space_that_a_disk_takes(disk: Room) -> None:
 
 
 def test_format_on_a_small_volume_which_then_grows(room: Room) -> None:
-    """Only one process and its children see the volume. It goes with that process, however this ends."""
-    path = room.path / "volume"
-    path.mkdir()
-    command = 'mount -t tmpfs -o size=1m none "$0" && echo mounted && read -r _'
-    with subprocess.Popen(["unshare", "--mount", "bash", "-c", command, path], stdin=subprocess.PIPE, stdout=subprocess.PIPE,
-                          stderr=subprocess.PIPE) as holder:
-        if holder.stdout is None or holder.stdout.readline() != b"mounted\n":
-            pytest.skip("no volume can be mounted here")
-        before, disk, seen = ("nsenter", f"--mount=/proc/{holder.pid}/ns/mnt", "--"), f"{path}/d", f"/proc/{holder.pid}/root{path}/d"
-        room.ends(["format", "--disk", disk], 1, f"disk device\n{disk}: there is no room", before=before)
-        assert os.path.getsize(seen) == 0
-        room.ends(["run", "--disk", disk], 1, f"disk size\n{disk}: 0 bytes instead of {DISK}", before=before)
-        subprocess.run([*before, "mount", "-o", "remount,size=2m", "none", path], check=True)
-        room.ends(["format", "--disk", disk], before=before)
-        room.ends(["run", "--disk", disk], out="1 stored 1\n", lines="1 return 1 1 1 7\n", before=before)
-        assert room.has_its_space(seen)
-        # The volume is full, and a disk that has its space goes on.
-        subprocess.run([*before, "bash", "-c", 'cat /dev/zero > "$0/rest"', path], stderr=subprocess.DEVNULL)
-        room.ends(["run", "--disk", disk], out=stored(2, 1100), lines=returns(1, 2, 1100), before=before)
-        holder.kill()
+    """Then it is full, and a disk that has its space goes on. Only these commands see the volume."""
+    (room.path / "volume").mkdir()
+    (room.path / "lines").write_text(returns(1, 1, 1100))
+    task, run = (shlex.join(room.words(f"{it} --disk volume/d")) for it in ("format", "run"))
+    commands = f"""mount -t tmpfs -o size=1m none volume && echo mounted || exit
+        {task}
+        {run}
+        mount -o remount,size=2m none volume
+        {task}
+        cat /dev/zero 2> /dev/null > volume/rest
+        {run} < lines"""
+    out = subprocess.run(["unshare", "--mount", "bash", "-c", commands], cwd=room.path, stdin=subprocess.DEVNULL, stdout=subprocess.PIPE,
+                         stderr=subprocess.STDOUT, text=True).stdout
+    if not out.startswith("mounted\n"):
+        pytest.skip("no volume can be mounted here")
+    assert out == ("mounted\nzhcount: disk device\nvolume/d: there is no room\n"
+                   f"zhcount: disk size\nvolume/d: 0 bytes instead of {DISK}\n{stored(1, 1100)}")
 
 
 @pytest.mark.parametrize("streams, task, lines, status, fault, replies, held", [
