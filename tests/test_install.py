@@ -44,14 +44,6 @@ def man(folder, name):
 
 
 @pytest.fixture(scope="module")
-def there(tmp_path_factory):
-    """The folder where all is installed."""
-    folder = tmp_path_factory.mktemp("installed") / "there"
-    make("install", f"PREFIX={folder}")
-    return folder
-
-
-@pytest.fixture(scope="module")
 def unpacked(tmp_path_factory):
     """The folder that is packed in the archive of make dist. A copy of the archive is beside it."""
     make("dist")
@@ -61,15 +53,17 @@ def unpacked(tmp_path_factory):
 
 
 def test_all_is_there_and_then_gone(tmp_path):
-    """Below another root, where all names /usr/local."""
+    """Below another root, where all names the folder that it will be in."""
+    there, words = tmp_path / "opt/there", (f"DESTDIR={tmp_path}", "PREFIX=/opt/there")
     for _ in ("first", "again"):
-        said = make("install", f"DESTDIR={tmp_path}")
-        assert files_below(tmp_path / "usr/local") == FILES
-        assert ran("sha256sum", tmp_path / "usr/local/share/zhcount/index.html").stdout.split()[0] in said.splitlines()
-    assert filecmp.cmp(TOP / "page/index.html", tmp_path / "usr/local/share/zhcount/index.html", shallow=False)
-    assert names_in_unit(tmp_path / "usr/local") == ["/usr/local"] * 2
+        said = make("install", *words)
+        assert files_below(there) == FILES
+        assert ran("sha256sum", there / "share/zhcount/index.html").stdout.split()[0] in said.splitlines()
+    assert filecmp.cmp(TOP / "page/index.html", there / "share/zhcount/index.html", shallow=False)
+    assert names_in_unit(there) == ["/opt/there"] * 2
+    assert ".TP\n/opt/there/share/doc/zhcount\nManuals: MANUAL.md first" in man(there, "zhcount")
     for _ in ("first", "again"):
-        make("uninstall", f"DESTDIR={tmp_path}")
+        make("uninstall", *words)
         assert files_below(tmp_path) == []
 
 
@@ -80,13 +74,6 @@ def test_what_is_no_place_or_no_program_is_refused(tmp_path, prefix, program):
     refused = ran("make", "-s", "install", f"DESTDIR={tmp_path}/bad", f"PREFIX={prefix}", env={**os.environ, "ZHCOUNT": str(program)})
     assert refused.returncode and ("run 'make build' first" in refused.stdout) == (program == "/none")
     assert not (tmp_path / "bad").exists()
-
-
-def test_unit_and_pages_name_what_was_installed(there):
-    assert names_in_unit(there) == [str(there)] * 2
-    assert f".TP\n{there}/share/doc/zhcount\nManuals: MANUAL.md first" in man(there, "zhcount")
-    assert "share/examples/zhcount`, beside" in (there / "share/doc/zhcount/MANUAL.md").read_text()
-    assert [*lost_links(there)] == []
 
 
 @pytest.mark.parametrize("page, name, text", [
@@ -101,12 +88,12 @@ def test_unit_and_pages_name_what_was_installed(there):
     ("zhcount-office", "zhcount-office --rebuild FOLDER DISK", "makes a lost disk again"),
     ("zhcount-office", "FOLDER/night.db, FOLDER/night.db-wal", "each line and each answer"),
 ])
-def test_a_man_page_says_what_each_thing_means(there, page, name, text):
-    assert re.search(rf"^\.TP\n{re.escape(name)}\n.*{re.escape(text)}", man(there, page), re.M)
+def test_a_man_page_says_what_each_thing_means(unpacked, page, name, text):
+    assert re.search(rf"^\.TP\n{re.escape(name)}\n.*{re.escape(text)}", man(unpacked, page), re.M)
 
 
-def test_the_man_page_has_each_task_answer_and_fault_of_the_pages(there):
-    text, formats, manual = man(there, "zhcount"), (TOP / "docs/FORMATS.md").read_text(), (TOP / "docs/MANUAL.md").read_text()
+def test_the_man_page_has_each_task_answer_and_fault_of_the_pages(unpacked):
+    text, formats, manual = man(unpacked, "zhcount"), (TOP / "docs/FORMATS.md").read_text(), (TOP / "docs/MANUAL.md").read_text()
     tasks = set(re.findall(r"^\| `([a-z]+)", formats.split("\n| Arguments |")[1].split("\n\n")[0], re.M))
     assert tasks == set(re.findall(r"^\.SS (\S+)$", text, re.M)) == set(re.findall(r"^zhcount ([a-z]+) .*--setup <FILE>", text, re.M))
     rows = [row for head in ("Answer", "Fault") for row in manual.split(f"\n| {head} |")[1].split("\n\n")[0].splitlines()[2:]]
@@ -116,15 +103,14 @@ def test_the_man_page_has_each_task_answer_and_fault_of_the_pages(there):
 
 
 @pytest.mark.parametrize("name", [it[4:] for it in FILES if it.startswith("bin/")])
-def test_a_man_page_is_whole(there, name):
-    text = man(there, name)
+def test_a_man_page_is_whole(unpacked, name):
+    text = man(unpacked, name)
     assert text.startswith(f'.TH {name.upper()} 1 "" "zhcount {VERSION}" "User Commands"\n')
     assert {"NAME", "SYNOPSIS", "DESCRIPTION", "EXIT STATUS", "EXAMPLES", "SEE ALSO"} <= set(re.findall(r"^\.SH (.*)", text, re.M))
     assert re.search(rf"^\.SH SYNOPSIS\n(?:\.\S+.*\n)*{name}\b", text, re.M)
     if shutil.which("man"):
-        words = ["man", "--warnings", "-E", "UTF-8", "-l", there / f"share/man/man1/{name}.1"]
-        wide = {**os.environ, "MANWIDTH": "200"}  # a test's folder has a long name
-        assert ran(*words, stdout=subprocess.DEVNULL, stderr=subprocess.PIPE, env=wide).stderr == ""
+        words = ["man", "--warnings", "-E", "UTF-8", "-l", unpacked / f"share/man/man1/{name}.1"]
+        assert ran(*words, stdout=subprocess.DEVNULL, stderr=subprocess.PIPE).stderr == ""
 
 
 def test_the_archive_has_what_is_installed_with_its_sums(unpacked):
@@ -132,7 +118,6 @@ def test_the_archive_has_what_is_installed_with_its_sums(unpacked):
     summed = [line[66:] for line in (unpacked / "SHA256SUMS").read_text().splitlines()]
     assert sorted(["SHA256SUMS", *summed]) == files_below(unpacked)
     assert [*lost_links(unpacked)] == [] and names_in_unit(unpacked) == ["/usr/local"] * 2
-    assert "\n## Install\n" in (unpacked / "share/doc/zhcount/OPERATING.md").read_text()
     assert ran("sh", "-c", "umask 077; make -s dist").returncode == 0
     assert filecmp.cmp(ARCHIVE, f"{unpacked}.tar.gz", shallow=False)
 

@@ -12,7 +12,7 @@ from canton import Canton, Chance
 SEED = 2027
 DESKS = range(1, 9)
 BATCH_DESKS = (7, 8)
-EARLIEST_STOP, LATEST_STOP = 500, 1000  # moments
+STOPS = range(500, 1000)  # moments at which the stop can come
 SHEETS = range(100, 1000, 100)  # when desk 1 asks for the seats
 
 
@@ -123,7 +123,7 @@ def split(lines, moment):
 def merged(desks):
     """The lines before the stop, which breaks a batch, and after it, in the order in which they arrive. After it a desk first sends a lost
     batch from its beginning, or else its last line."""
-    stop = next(it for it in range(EARLIEST_STOP, LATEST_STOP) if any(lost_batch(split(desk.lines, it)[0]) for desk in desks))
+    stop = next(it for it in STOPS if any(lost_batch(split(desk.lines, it)[0]) for desk in desks))
     before, after = split([(moment, 1, "1 sheet") for moment in SHEETS], stop)
     for desk in desks:
         early, late = split(desk.lines, stop)

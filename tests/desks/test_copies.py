@@ -90,24 +90,23 @@ def test_copy_of_another_disk(new_room):
 # The child
 
 
-def test_late_child():
-    """of a child that is killed the log says so, and another one does its work; one that takes too long is killed, with what it has
-    started, and desks are answered meanwhile"""
-    with QuickRoom() as room:
-        late, is_said = room.is_patient(), "could not be renewed: its process was killed after "
-        room.start_held()
-        os.kill(room.working(), signal.SIGKILL)
-        room.office.says(is_said)
-        room.goes_on()
-        compare(room, [])
-        room.held.touch()
-        assert room.ask(1, RETURNS[0]).out == ["stored 1"], "the answer meanwhile"
-        until("a question about a copy", room.left_over)
-        late.touch()
-        until("that one is killed too", lambda: room.office.said().count(is_said) > 1)
-        room.stop()
-        until("nothing is left", lambda: not room.left_over())
-        assert names_of_now(room) == ["now", "now-0"], "and no folder"
+def test_late_child(new_room):
+    """if a child is killed the log says so, and another one does its work; one that takes too long is killed, with what it has started,
+    and desks are answered all the time"""
+    late, is_said = new_room.is_patient(), "could not be renewed: its process was killed after "
+    new_room.start_held()
+    os.kill(new_room.working(), signal.SIGKILL)
+    new_room.office.says(is_said)
+    new_room.goes_on()
+    compare(new_room, [])
+    new_room.held.touch()
+    assert new_room.ask(1, RETURNS[0]).out == ["stored 1"], "the answer while the child is late"
+    until("a question about a copy", new_room.left_over)
+    late.touch()
+    until("that one is killed too", lambda: new_room.office.said().count(is_said) > 1)
+    new_room.stop()
+    until("nothing is left", lambda: not new_room.left_over())
+    assert names_of_now(new_room) == ["now", "now-0"], "and no folder"
 
 
 def test_no_room(new_room):

@@ -5,7 +5,6 @@ import concurrent.futures
 import getpass
 import os
 import pathlib
-import random
 import re
 import shlex
 import shutil
@@ -137,14 +136,13 @@ def test_machine_is_lost(new_room):
     """whatever desks were shown holds at a witness by ssh, whenever the office's machine was lost; the night goes on there"""
     lines = {it: [f"return {1 + it % 3} {1 + it // 3} {number} 525" for number in range(1, 26)] for it in range(1, 9)}
 
-    def night(seed):
-        chance = random.Random(seed)
-        with running(reaching(Witnessed("--witness-required"), new_room, f"witness{seed}")) as room:
-            desks, least = {it: room.desk(it) for it in lines}, chance.randint(1, 100)
+    def night(loss):
+        with running(reaching(Witnessed("--witness-required"), new_room, f"witness{loss}")) as room:
+            desks, least = {it: room.desk(it) for it in lines}, 1 + 2 * loss % 100
             for it, desk in desks.items():
                 desk.write("".join(f"{line}\n" for line in lines[it]))
             until(f"{least} answers", lambda: sum(len(it.out) for it in desks.values()) >= least)
-            time.sleep(chance.random() / 50)
+            time.sleep(loss % 10 / 500)
             burns(room)
             room.moves()
             room.start()

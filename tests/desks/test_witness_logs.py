@@ -2,7 +2,6 @@
 zhcount-witness takes: the folder, who has it, and messages of any kind."""
 import json
 import os
-import re
 import shutil
 import signal
 
@@ -127,6 +126,13 @@ def spoken(room, *messages, folder=None):
     return witness
 
 
+def refuses(room, said, *messages, folder=None):
+    """A witness refuses what it was sent, by one line that contains this."""
+    witness = spoken(room, *messages, folder=folder)
+    assert witness.status == 1, f"the status after {messages}: {witness.said()}"
+    assert said in witness.said() and "\n" not in witness.said(), f"it says so, {messages}: {witness.said()}"
+
+
 def listed(*found, size=10**7):
     """Messages with these events, each with this many characters of them at most."""
     text = json.dumps(found)
@@ -135,13 +141,11 @@ def listed(*found, size=10**7):
 
 def test_refused_folder(new_room):
     """a folder that others may use, and one that can't be made, are refused"""
-    new_room.copy.mkdir()
-    new_room.copy.chmod(0o755)
-    for folder, said in [(new_room.copy, f"others may use {new_room.copy}: 'chmod 2750 {new_room.copy}' makes it right"),
-                         (new_room.path / "no/copy", "No such file or directory")]:
-        refused = spoken(new_room, folder=folder)
-        assert refused.status == 1, f"the status: {refused.said()}"
-        assert re.match(rf"zhcount-witness: {folder}: .*{re.escape(said)}", refused.said()), f"it says so: {refused.said()}"
+    copy = new_room.copy
+    copy.mkdir()
+    copy.chmod(0o755)
+    refuses(new_room, f"zhcount-witness: {copy}: others may use {copy}: 'chmod 2750 {copy}' makes it right")
+    refuses(new_room, "No such file or directory", folder=new_room.path / "no/copy")
 
 
 def test_what_follows(new_room):
@@ -155,9 +159,7 @@ def test_what_follows(new_room):
                            *((listed(second, changed, size=it), "does not follow") for it in (40, 10**7)),
                            (["x"], "no message"), (["[]"], "no message"), (["[" * 10000], "no message"), (["{}"], NO_FORM),
                            *(([{"events": it, "more": False}], NO_FORM) for it in ("x", 5, "[[1, 2]]", "[5]"))]:
-        refused = spoken(new_room, *messages)
-        assert refused.status == 1, f"the status after {messages}: {refused.said()}"
-        assert said in refused.said() and refused.said().count("\n") == 0, f"it says so, {messages}: {refused.said()}"
+        refuses(new_room, said, *messages)
         assert events(new_room.copy) == [first], "what it has"
     taken = spoken(new_room, *listed(second, third, size=40))
     assert (taken.status, events(new_room.copy)) == (0, [first, second, third]), taken.said()
