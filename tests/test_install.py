@@ -83,7 +83,6 @@ def test_what_is_no_place_or_no_program_is_refused(tmp_path, prefix, program):
     ("zhcount", "--setup <FILE>", "The set-up, in TOML"),
     ("zhcount", "2", "the arguments ask for no task"),
     ("zhcount", "disk busy", "Another program is using the disk"),
-    ("zhcount", "sheet file, held file", "can't be opened or read"),
     ("zhcount-desk", "1", "Something was not sent"),
     ("zhcount-office", "zhcount-office --rebuild FOLDER DISK", "makes a lost disk again"),
     ("zhcount-office", "FOLDER/night.db, FOLDER/night.db-wal", "each line and each answer"),

@@ -192,4 +192,5 @@ def test_network_hangs(new_room):
         finally:
             os.kill(hung, signal.SIGCONT)
         desk.talk("return 2 1 1 240 -> stored 13")
+        room.has_all()
         room.check()

@@ -67,13 +67,12 @@ def test_waits_for_it():
         room.lose_witness()
         room.says_of_it(WAITING)
         room.note(desk, "return 1 1 3 540")
-        until("it is on the disk", lambda: room.events()[-1].text == "stored 3")
         room.away.unlink()
         assert desk.answer() == "stored 3"
         room.lose_witness()
         room.says_of_it(WAITING)
         room.note(desk, "return 1 1 4 550")
-        until("it is on the disk too", lambda: room.events()[-1].text == "stored 4")
+        until("it is on the disk", lambda: room.events()[-1].text == "stored 4")
         assert room.stop() == 0
         room.office.says("unanswered: desk 1: return 1 1 4 550: the next start looks")
         assert desk.out == ["stored 1", "stored 2", "stored 3"], "what desk 1 was shown"
@@ -85,6 +84,7 @@ def test_waits_for_it():
         room.away.unlink()
         assert desk.answer() == "stored 4"
         room.check()
+        assert events(room.copy) == room.events(), "the witness has all"
 
 
 @pytest.mark.xdist_group("times")

@@ -2,7 +2,6 @@
 zhcount-witness takes: the folder, who has it, and messages of any kind."""
 import json
 import os
-import shutil
 import signal
 
 import pytest
@@ -97,7 +96,7 @@ def test_witness_that_lacks_much():
 
 
 def test_waits_for_the_one_before(new_room):
-    """a witness and an office wait for the witness that has their folder, and say so; one that hears nothing for 20 seconds ends"""
+    """a witness waits for the witness that has its folder, and that is said; one that hears nothing for 20 seconds ends"""
     first = new_room.process(Process, new_room.script("zhcount-witness", new_room.copy))
     first.write(f"{json.dumps(GREETING)}\n")
     until("it is ready", lambda: first.out)
@@ -112,11 +111,6 @@ def test_waits_for_the_one_before(new_room):
     new_room.office.says("the witness has been connected since")
     assert new_room.ask(1, "return 1 1 1 525").out == ["stored 1"]
     new_room.has_all()
-    disk = shutil.copyfile(new_room.disk, new_room.path / "saved.disk")
-    second = new_room.process(Process, new_room.script("zhcount-office", new_room.setup, disk, new_room.copy))
-    second.says(f"waiting for the end of zhcount-witness, process {new_room.witness()} of ")
-    new_room.stop(signal.SIGKILL)
-    second.says("desks can send lines")
 
 
 def spoken(room, *messages, folder=None):

@@ -69,11 +69,3 @@ class Witnessed(Room):
         self.folder, self.disk, self.options = self.copy, self.path / "new.disk", []
         self.zhcount_office("--rebuild", self.folder, self.disk)
         assert (self.folder / "setup.toml").read_bytes() == self.setup.read_bytes(), "its set-up"
-
-    def check(self, sent=()):
-        """As of each room. The witness also has all that the office has, unless the folder says that it was away."""
-        said = super().check(sent)
-        own, there = events(self.folder), events(self.copy)
-        assert there == own[:len(there)], "what the witness has"
-        assert there == own or "the witness has been connected" not in self.said_of_it(), "it has all"
-        return said

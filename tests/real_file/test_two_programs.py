@@ -8,7 +8,7 @@ import pytest
 from processes import until
 from real_files import SEED, Room, returns, shows, stored
 
-KILLS, BETWEEN, MOST = 50, 5, 1000
+KILLS = 50
 
 
 def test_a_second_program_ends_with_disk_busy_and_the_first_goes_on(room: Room) -> None:
@@ -19,10 +19,6 @@ def test_a_second_program_ends_with_disk_busy_and_the_first_goes_on(room: Room) 
     with room.untouched("kinds/d"):
         for task, path in (("run", "kinds/d"), ("run", "link"), ("format", "kinds/d"), ("status", "kinds/d"), ("seats", "kinds/d")):
             room.ends([task, "--disk", path], 1, f"disk busy\n{path}", lines=returns(1, 2, 2))
-    # What needs no disk, or a copy, is answered.
-    shutil.copy(room.path / "kinds/d", room.path / "copy")
-    assert room.run("status --disk copy").status == 0
-    room.ends("list --of groups", out="number,name\n1,A\n2,B\n3,C\n")
     assert (first.end(returns(1, 2, 3)), first.out, first.error) == (0, stored(1, 3).splitlines(), [])
     room.serves("kinds/d", "1 show 1 1\n", shows(3))
     assert room.names() == ["d"]
@@ -30,21 +26,20 @@ def test_a_second_program_ends_with_disk_busy_and_the_first_goes_on(room: Room) 
 
 def test_two_programs_at_once(disk: Room) -> None:
     """Twenty returns each, twenty times, and until they have met: a program serves all of them, or is refused and stores none."""
-    held, met, rounds = [0, 0], 0, 0
-    while rounds < 20 or not met and rounds < 500:
-        rounds += 1
+    held, met = [0, 0], 0
+    for rounds in range(500):
+        if rounds >= 20 and met:
+            break
         runs = []
         for place in (0, 1):
             runs.append(disk.begun("d", returns(place + 1, held[place] + 1, held[place] + 20)))
             runs[place].process.stdin.close()
             time.sleep(0 if place else disk.chance.uniform(0, 0.004))
         for place, run in enumerate(runs):
-            if run.wait() == 0:
-                assert len(run.out) == 20 and all(it.startswith("1 stored ") for it in run.out)
-                held[place] += 20
-            else:
-                assert (run.wait(), run.out, run.error) == (1, [], ["zhcount: disk busy", str(disk.path / "d")])
-                met += 1
+            status = run.wait()
+            assert (status, len(run.out), run.said()) in ((0, 20, ""), (1, 0, f"zhcount: disk busy\n{disk.path}/d"))
+            held[place] += len(run.out)
+            met += status
         disk.serves("d", "1 show 1 1\n1 show 2 1\n", shows(held[0]) + shows(held[1]))
     disk.serves("d", "1 return 3 1 1 5\n", f"1 stored {sum(held) + 1}\n")
     assert met, "no program met the other"
@@ -78,28 +73,26 @@ def spaced(first: int, last: int) -> str:
 
 @pytest.mark.long
 def test_kills(disk: Room) -> None:
-    """What is held after each kill are the returns that were answered, and at most one more. There are more kills where few of them are
-    between two answers, as on a busy machine."""
+    """After each kill the returns are held that were answered, and at most one more."""
     begun = time.monotonic()
     disk.run("run --disk d", lines=spaced(1, 300))
-    span, held, between, kills = min(time.monotonic() - begun, 0.1), 1000, 0, 0
-    while kills < KILLS or between < BETWEEN and kills < MOST:
+    span, held, between = min(time.monotonic() - begun, 0.1), 1000, 0
+    for kill in range(KILLS):
         if held >= 500:
             (disk.path / "d").unlink()
             disk.ends("format --disk d")
             held = 0
         run = disk.begun("d", spaced(held + 1, held + 500))
-        if kills % 2:
+        if kill % 2:
             until("the first answer", lambda: run.out)
         time.sleep(disk.chance.uniform(0, span))
         run.kill()
         run.wait()
         answered = held + sum("stored" in it for it in run.out)
-        assert [it for it in run.out if it != "1 none"] == stored(held + 1, answered).splitlines(), f"kill {kills}, seed {SEED}"
-        assert run.error == [], f"kill {kills}, seed {SEED}"
+        assert [it for it in run.out if it != "1 none"] == stored(held + 1, answered).splitlines(), f"kill {kill}, seed {SEED}"
+        assert run.error == [], f"kill {kill}, seed {SEED}"
         between += held < answered < held + 500
         shown = disk.ends("run --disk d", out=None, lines="1 show 1 1\n")
-        assert shown in (shows(answered), shows(answered + 1)), f"kill {kills}, seed {SEED}"
+        assert shown in (shows(answered), shows(answered + 1)), f"kill {kill}, seed {SEED}"
         held = answered + (shown != shows(answered))
-        kills += 1
-    assert between >= BETWEEN, f"only {between} kills were between two answers, within {span} s"
+    assert between >= KILLS / 10, f"only {between} kills were between two answers, within {span} s"
