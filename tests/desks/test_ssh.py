@@ -2,7 +2,6 @@
 is lost at 50 moments, with eight desks without ssh, since 400 connections would take minutes; and the network hangs. LOSSES takes another
 number of losses."""
 import concurrent.futures
-import getpass
 import os
 import pathlib
 import re
@@ -24,8 +23,6 @@ CONFIG = """HostKey {folder}/host
 AuthorizedKeysFile {folder}/keys
 StrictModes no
 UsePAM no
-PasswordAuthentication no
-KbdInteractiveAuthentication no
 PermitRootLogin forced-commands-only
 ClientAliveInterval 5
 ClientAliveCountMax 3
@@ -64,15 +61,14 @@ class SshRoom(Room):
         settings = ["BatchMode=yes", "IdentitiesOnly=yes", "StrictHostKeyChecking=no", f"UserKnownHostsFile={self.keys}/known",
                     f"ProxyCommand=setsid /usr/sbin/sshd -i -f {self.keys}/config"]
         options = [it for setting in settings for it in ("-o", setting)]
-        return ["ssh", "-F", "/dev/null", "-i", f"{self.keys}/{key}", *options, f"{getpass.getuser()}@office", *map(str, words)]
+        return ["ssh", "-F", "/dev/null", "-i", f"{self.keys}/{key}", *options, "office", *map(str, words)]
 
     def desk(self, number, *_):
         return self.process(Desk, self.words(number, "-T"))
 
     def ran_by_ssh(self, key, *words, text="show 1 1\n"):
-        """What ssh with this key does with this input: its status, and what it writes."""
-        ran = subprocess.run(self.words(key, *words), input=text, capture_output=True, text=True, timeout=SECONDS)
-        return ran.returncode, ran.stdout, ran.stderr
+        """What ssh with this key does with this input."""
+        return subprocess.run(self.words(key, *words), input=text, capture_output=True, text=True, timeout=SECONDS)
 
     def is_at_work(self, number):
         """Whether this desk runs at the other end of a connection."""
@@ -91,21 +87,21 @@ def test_a_key_is_a_desk(room):
     desks[2].kill()
     until("desk 3 has ended", lambda: not room.is_at_work(3))
     other = room.script("zhcount-desk", 4, room.folder)
-    _, out, error = room.ran_by_ssh(3, *other, text="show 1 1\n4 return 1 1 9 5\n")
-    assert out == "shows 8 525\nrefused syntax\n" and "before: return 1 1 3 525: stored 3" in error, f"what desk 3 is shown: {out}{error}"
+    ran = room.ran_by_ssh(3, *other, text="show 1 1\n4 return 1 1 9 5\n")
+    assert ran.stdout == "shows 8 525\nrefused syntax\n" and "before: return 1 1 3 525: stored 3" in ran.stderr, f"desk 3 is shown {ran}"
     for command in ("echo hello", "sh"):
-        assert room.ran_by_ssh(3, command)[1] == "shows 8 525\n", f"no shell by {command}"
-    assert room.ran_by_ssh(3, "-s", "sftp")[0], "no other service"
-    _, out, error = room.ran_by_ssh(3, "-tt", text="echo $((6 * 7))\n")
-    assert "42" not in out and "PTY allocation request failed" in error, "no terminal"
+        assert room.ran_by_ssh(3, command).stdout == "shows 8 525\n", f"no shell by {command}"
+    assert room.ran_by_ssh(3, "-s", "sftp").returncode, "no other service"
+    ran = room.ran_by_ssh(3, "-tt", text="echo $((6 * 7))\n")
+    assert "42" not in ran.stdout and "PTY allocation request failed" in ran.stderr, "no terminal"
     for options in (["-W", "127.0.0.1:9"], ["-N", "-o", "ExitOnForwardFailure=yes", "-R", "0:127.0.0.1:9"]):
-        status, out, error = room.ran_by_ssh(3, *options)
-        assert status == 255 and re.search("prohibited|remote port forwarding failed", error), f"no port by {options}"
-    assert room.ran_by_ssh(9)[0] == 255, "another key"
+        ran = room.ran_by_ssh(3, *options)
+        assert ran.returncode == 255 and re.search("prohibited|remote port forwarding failed", ran.stderr), f"no port by {options}"
+    assert room.ran_by_ssh(9).returncode == 255, "another key"
     desks[4].talk("show 1 1 -> shows 8 525")
-    assert "another connection has this desk" in room.ran_by_ssh(5)[2], "a second one is refused"
+    assert "another connection has this desk" in room.ran_by_ssh(5).stderr, "a second one is refused"
     desks[4].kill(signal.SIGSTOP)
-    until("it is let in when the first is dead", lambda: room.ran_by_ssh(5)[1] == "shows 8 525\n")
+    until("it is let in when the first is dead", lambda: room.ran_by_ssh(5).stdout == "shows 8 525\n")
     room.check({4: ["return 1 1 4 525"]})
 
 
@@ -120,8 +116,8 @@ def test_table(room):
     until("the desk has ended", lambda: not room.is_at_work(3))
     assert room.noted() == [], "nothing is sent"
     for answer in ("stored 1", "same"):
-        status, out, error = room.ran_by_ssh("table", "-T", "show 1 1", text=f"{text}3;1;1;90\r\n")
-        assert (status, out) == (0, f"{answer}\n"), f"it is in: {error}"
+        ran = room.ran_by_ssh("table", "-T", "show 1 1", text=f"{text}3;1;1;90\r\n")
+        assert (ran.returncode, ran.stdout) == (0, f"{answer}\n"), f"it is in: {ran.stderr}"
     room.check({3: ["open", "row 1 1 1 525", "row 1 2 1 300", "row 3 1 1 90", "commit"] * 2})
 
 

@@ -8,12 +8,11 @@ from pathlib import Path
 from typing import Iterator, NamedTuple, Optional, Sequence, Union
 
 from places import REHEARSAL
-from processes import Process
+from processes import SECONDS, Process
 
 # From docs/FORMATS.md: the length of a disk, the start of its journal and the length of a page.
 DISK, JOURNAL, PAGE = 1118720, 332032, 256
 SEED = int(os.environ.get("SEED", "20270404"))
-PATIENCE = 600  # seconds: no test is about time, and a machine may have other work
 Ran = NamedTuple("Ran", [("status", int), ("out", str), ("said", str)])
 Task = Union[str, Sequence[str]]  # a text with blanks between its words, or a list
 
@@ -54,7 +53,7 @@ class Room:
         """What a task does with these lines as its input, and its output in a file. `before` are words before the command."""
         with open(self.path / "out", "wb") as out:
             ran = subprocess.run([*before, *self.words(task, setup)], cwd=self.path, input=lines.encode(), stdout=out,
-                                 stderr=subprocess.PIPE, timeout=PATIENCE)
+                                 stderr=subprocess.PIPE, timeout=SECONDS)
         return Ran(ran.returncode, *(it.decode(errors="replace") for it in ((self.path / "out").read_bytes(), ran.stderr)))
 
     def begun(self, disk: str, lines: str) -> Process:

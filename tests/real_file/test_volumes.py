@@ -18,10 +18,6 @@ def limited(kibibytes: int) -> tuple:
     return bash(f"trap '' XFSZ; ulimit -f {kibibytes}; exec \"$@\"")
 
 
-def redirected(streams: str) -> tuple:
-    return bash(f'exec "$@" {streams}')
-
-
 def test_run_keeps_what_it_acknowledged(disk: Room) -> None:
     replies = stored(1, PAGES) + "1 refused device\n" + 4 * "1 refused reopen-disk\n"
     disk.ends("run --disk d", 1, "disk device\nd", replies, lines=returns(1, 1, PAGES + 5), before=limited(340))
@@ -89,7 +85,7 @@ def test_stream(streams: str, task: str, lines: str, status: int, fault: str, re
     with open(disk.path / "d", "r+b") as file:
         os.pwrite(file.fileno(), b"\n1 return 1 1 2 14\n", 100)
     before = (disk.path / "d").read_bytes()
-    disk.ends(task, status, fault, replies, lines=lines, before=redirected(streams))
+    disk.ends(task, status, fault, replies, lines=lines, before=bash(f'exec "$@" {streams}'))
     assert held > 1 or (disk.path / "d").read_bytes() == before
     disk.serves("d", "1 show 1 1\n", shows(held))
 
@@ -97,8 +93,8 @@ def test_stream(streams: str, task: str, lines: str, status: int, fault: str, re
 @pytest.mark.parametrize("streams", ["<&-", ">&-", "2>&-", ALL])
 def test_format_makes_a_disk(streams: str, room: Room) -> None:
     """Also for a set-up with problems, which it reports on standard error."""
-    room.ends(FORMAT, before=redirected(streams))
+    room.ends(FORMAT, before=bash(f'exec "$@" {streams}'))
     room.serves("d", returns(1, 1, 1), "1 stored 1\n")
     (room.path / "few.toml").write_text(Path(room.setup).read_text().replace("house = 10", "house = 1"))
     said = "" if "2>&-" in streams else "problems of the set-up: 2, named by list --of problems"
-    room.ends("format --disk few", fault=said, before=redirected(streams), setup="few.toml")
+    room.ends("format --disk few", fault=said, before=bash(f'exec "$@" {streams}'), setup="few.toml")
