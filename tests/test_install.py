@@ -1,7 +1,6 @@
-"""What make install and make dist put where, that make uninstall takes it away, the man pages, and OPERATING as it stands."""
+"""What make install and make dist put where, that make uninstall takes it away, the man pages, and the commands of OPERATING."""
 import filecmp
 import os
-import pathlib
 import re
 import shutil
 import subprocess
@@ -12,18 +11,8 @@ from pages.cited import lost_links
 from places import PROGRAM, TOP
 
 VERSION = (TOP / "VERSION").read_text().strip()
-NAMES = ("zhcount", "zhcount-desk", "zhcount-office", "zhcount-read", "zhcount-witness")
-PAGES = ("BRIEF CHANGELOG CHECKING DECISIONS DEFINITIONS FAQ FOLDER FORMATS MANUAL NIGHT OPERATING PROVED README STATUTE "
-         "de/BRIEF de/CHECKING de/NIGHT")
-FILES = {
-    "bin": NAMES,
-    "share/man/man1": [f"{it}.1" for it in NAMES],
-    "share/doc/zhcount": [f"{it}.md" for it in PAGES.split()] + "night.svg page.png stops.svg de/night.svg de/page.png".split(),
-    "share/examples/zhcount": "canton.toml rehearsal.toml zhcount-office.service zurich2006.toml".split(),
-    "share/examples/zhcount/zurich2006": "forged held.csv setup.toml sheet".split(),
-    "share/zhcount": ["card.html", "index.html", *(f"zhcount_{it}.py" for it in (
-        "connections", "log", "names", "now", "program", "replay", "state", "stream", "tables", "witness"))],
-}
+ARCHIVE = TOP / f"out/zhcount-{VERSION}.tar.gz"
+FILES = (TOP / "tests/installed/files.txt").read_text().split()
 
 
 def ran(*words, **options):
@@ -42,12 +31,6 @@ def files_below(folder):
     return sorted(str(it.relative_to(folder)) for it in folder.rglob("*") if it.is_file())
 
 
-def names_in_unit(folder):
-    """The folders of programs that the unit names."""
-    unit = (folder / "share/examples/zhcount/zhcount-office.service").read_text()
-    return re.findall(r"[= ](/\S*)/bin/zhcount(?:-office )?", unit)
-
-
 def man(folder, name):
     """A man page's text without its marks, but for its macros."""
     text = (folder / f"share/man/man1/{name}.1").read_text()
@@ -55,44 +38,28 @@ def man(folder, name):
 
 
 @pytest.fixture(scope="module")
-def there(tmp_path_factory):
-    """The folder where all is installed."""
-    folder = tmp_path_factory.mktemp("installed") / "there"
-    make("install", f"PREFIX={folder}")
-    return folder
-
-
-@pytest.fixture(scope="module")
-def archive(tmp_path_factory):
-    """The archive of make dist."""
+def unpacked(tmp_path_factory):
+    """The folder that is packed in the archive of make dist. A copy of the archive is beside it."""
     make("dist")
-    return pathlib.Path(shutil.copy(TOP / f"out/zhcount-{VERSION}.tar.gz", tmp_path_factory.mktemp("archive")))
-
-
-@pytest.fixture(scope="module")
-def unpacked(archive):
-    shutil.unpack_archive(archive, archive.parent)
-    return archive.parent / f"zhcount-{VERSION}"
+    folder = tmp_path_factory.mktemp("archive")
+    shutil.unpack_archive(shutil.copy(ARCHIVE, folder), folder)
+    return folder / f"zhcount-{VERSION}"
 
 
 def test_all_is_there_and_then_gone(tmp_path):
-    wanted = sorted(f"{folder}/{name}" for folder, names in FILES.items() for name in names)
+    """Below another root, where all names the folder that it will be in."""
+    there, words = tmp_path / "opt/there", (f"DESTDIR={tmp_path}", "PREFIX=/opt/there")
     for _ in ("first", "again"):
-        said = make("install", f"PREFIX={tmp_path}")
-        assert files_below(tmp_path) == wanted
-        assert ran("sha256sum", tmp_path / "share/zhcount/index.html").stdout.split()[0] in said.splitlines()
-    assert filecmp.cmp(TOP / "page/index.html", tmp_path / "share/zhcount/index.html", shallow=False)
+        said = make("install", *words)
+        assert files_below(there) == FILES
+        assert ran("sha256sum", there / "share/zhcount/index.html").stdout.split()[0] in said.splitlines()
+    assert filecmp.cmp(TOP / "page/index.html", there / "share/zhcount/index.html", shallow=False)
+    unit = (there / "share/examples/zhcount/zhcount-office.service").read_text()
+    assert unit.count("/opt/there/bin/zhcount") == 2 and "/usr/local" not in unit
+    assert ".TP\n/opt/there/share/doc/zhcount\nManuals: MANUAL.md first" in man(there, "zhcount")
     for _ in ("first", "again"):
-        make("uninstall", f"PREFIX={tmp_path}")
+        make("uninstall", *words)
         assert files_below(tmp_path) == []
-
-
-def test_below_another_root_all_names_usr_local(tmp_path):
-    make("install", f"DESTDIR={tmp_path}")
-    assert names_in_unit(tmp_path / "usr/local") == ["/usr/local"] * 2
-    assert "\n/usr/local/share/doc/zhcount\n" in man(tmp_path / "usr/local", "zhcount")
-    make("uninstall", f"DESTDIR={tmp_path}")
-    assert files_below(tmp_path) == []
 
 
 @pytest.mark.parametrize("prefix, program", [
@@ -104,25 +71,6 @@ def test_what_is_no_place_or_no_program_is_refused(tmp_path, prefix, program):
     assert not (tmp_path / "bad").exists()
 
 
-@pytest.mark.parametrize("words, text", [
-    ("zhcount --help", "The count office of a cantonal parliament"),
-    ("zhcount-desk 9", r"zhcount-desk N \[FOLDER\]"),
-    ("zhcount-desk 3 /none", "no office is running in .*none yet"),
-    ("zhcount-office", "zhcount-office .*SETUP DISK FOLDER"),
-    ("zhcount-read", "zhcount-read DISK"),
-    ("zhcount-witness", "zhcount-witness FOLDER"),
-])
-def test_each_program_says_how_it_is_called_or_what_it_waits_for(there, words, text):
-    until_then = 'timeout 300 "$@" 2>&1 | grep -E -m 1 -- "$0"'
-    assert ran("sh", "-c", until_then, text, *f"{there}/bin/{words}".split()).stdout
-
-
-def test_unit_and_pages_name_what_was_installed(there):
-    assert names_in_unit(there) == [str(there)] * 2
-    assert "share/examples/zhcount`, beside" in (there / "share/doc/zhcount/MANUAL.md").read_text()
-    assert [*lost_links(there)] == []
-
-
 @pytest.mark.parametrize("page, name, text", [
     ("zhcount", "D return M L N V", "a return: list L has V votes"),
     ("zhcount", "stored K", "a command was accepted; it is the K-th"),
@@ -130,80 +78,69 @@ def test_unit_and_pages_name_what_was_installed(there):
     ("zhcount", "--setup <FILE>", "The set-up, in TOML"),
     ("zhcount", "2", "the arguments ask for no task"),
     ("zhcount", "disk busy", "Another program is using the disk"),
-    ("zhcount", "sheet file, held file", "can't be opened or read"),
-    ("zhcount", "THERE/share/doc/zhcount", "Manuals: MANUAL.md first"),
     ("zhcount-desk", "1", "Something was not sent"),
     ("zhcount-office", "zhcount-office --rebuild FOLDER DISK", "makes a lost disk again"),
-    ("zhcount-office", "zhcount-office --replay FOLDER", "runs the lines of a folder's log"),
-    ("zhcount-office", "zhcount-office --take SETUP DISK FOLDER", "begins the log of a new FOLDER"),
     ("zhcount-office", "FOLDER/night.db, FOLDER/night.db-wal", "each line and each answer"),
 ])
-def test_a_man_page_says_what_each_thing_means(there, page, name, text):
-    entry = re.escape(name.replace("THERE", str(there)))
-    assert re.search(rf"^\.TP\n{entry}\n.*{re.escape(text)}", man(there, page), re.M)
+def test_a_man_page_says_what_each_thing_means(unpacked, page, name, text):
+    assert re.search(rf"^\.TP\n{re.escape(name)}\n.*{re.escape(text)}", man(unpacked, page), re.M)
 
 
-def test_the_man_page_has_each_task_answer_and_fault_of_the_pages(there):
-    text, formats, manual = man(there, "zhcount"), (TOP / "docs/FORMATS.md").read_text(), (TOP / "docs/MANUAL.md").read_text()
-    places = [text.index(it) for it in (".SH ANSWERS\n", "none of the forms below", ".SH LINES\n", ".SH FAULTS\n")]
-    assert places == sorted(places)
+def test_the_man_page_has_each_task_answer_and_fault_of_the_pages(unpacked):
+    text, formats, manual = man(unpacked, "zhcount"), (TOP / "docs/FORMATS.md").read_text(), (TOP / "docs/MANUAL.md").read_text()
     tasks = set(re.findall(r"^\| `([a-z]+)", formats.split("\n| Arguments |")[1].split("\n\n")[0], re.M))
     assert tasks == set(re.findall(r"^\.SS (\S+)$", text, re.M)) == set(re.findall(r"^zhcount ([a-z]+) .*--setup <FILE>", text, re.M))
     rows = [row for head in ("Answer", "Fault") for row in manual.split(f"\n| {head} |")[1].split("\n\n")[0].splitlines()[2:]]
     names = {name for row in rows for name in re.findall("`([^`]*)`", row.split(" | ")[0])}
     entries = {it for entry in re.findall(r"^\.TP\n(.*)", text, re.M) for it in entry.split(", ")}
-    assert len(names) > 50 and names - entries == {"sheet ..", "end"}  # a sheet is no reply
-    assert {"zhcount load [OPTIONS] --setup <FILE> --disk <FILE> --csv <FILE>",
-            "zhcount format --setup setup.toml --disk night.disk"} <= set(text.splitlines())
+    assert len(names) > 50 and names - entries == {"sheet ..", "end"}  # a sheet is not a reply
 
 
-@pytest.mark.parametrize("name", NAMES)
-def test_a_man_page_is_whole(there, name):
-    text = man(there, name)
+@pytest.mark.parametrize("name", [it[4:] for it in FILES if it.startswith("bin/")])
+def test_a_man_page_is_whole(unpacked, name):
+    text = man(unpacked, name)
     assert text.startswith(f'.TH {name.upper()} 1 "" "zhcount {VERSION}" "User Commands"\n')
     assert {"NAME", "SYNOPSIS", "DESCRIPTION", "EXIT STATUS", "EXAMPLES", "SEE ALSO"} <= set(re.findall(r"^\.SH (.*)", text, re.M))
     assert re.search(rf"^\.SH SYNOPSIS\n(?:\.\S+.*\n)*{name}\b", text, re.M)
     if shutil.which("man"):
-        words = ["man", "--warnings", "-E", "UTF-8", "-l", there / f"share/man/man1/{name}.1"]
-        wide = {**os.environ, "MANWIDTH": "200"}  # a test's folder has a long name
-        assert ran(*words, stdout=subprocess.DEVNULL, stderr=subprocess.PIPE, env=wide).stderr == ""
+        words = ["man", "--warnings", "-E", "UTF-8", "-l", unpacked / f"share/man/man1/{name}.1"]
+        assert ran(*words, stdout=subprocess.DEVNULL, stderr=subprocess.PIPE).stderr == ""
 
 
-def test_the_archive_has_what_is_installed_with_its_sums(archive, unpacked):
+def test_the_archive_has_what_is_installed_with_its_sums(unpacked):
     assert ran("sha256sum", "--quiet", "-c", "SHA256SUMS", cwd=unpacked).stdout == ""
     summed = [line[66:] for line in (unpacked / "SHA256SUMS").read_text().splitlines()]
     assert sorted(["SHA256SUMS", *summed]) == files_below(unpacked)
-    assert [*lost_links(unpacked)] == [] and names_in_unit(unpacked) == ["/usr/local"] * 2
-    assert "\n## Install\n" in (unpacked / "share/doc/zhcount/OPERATING.md").read_text()
+    assert [*lost_links(unpacked)] == []
     assert ran("sh", "-c", "umask 077; make -s dist").returncode == 0
-    assert filecmp.cmp(TOP / "out" / archive.name, archive, shallow=False)
+    assert filecmp.cmp(ARCHIVE, f"{unpacked}.tar.gz", shallow=False)
 
 
-def test_what_the_archive_has_needs_nothing_else(unpacked, tmp_path):
+def test_programs_of_the_archive_need_nothing_else(unpacked, tmp_path):
     tried = ran("sh", "-ec", f"""
         setup={unpacked}/share/examples/zhcount/canton.toml
         zhcount format --setup $setup --disk disk
-        zhcount-office $setup disk office & office=$!
+        zhcount-office --witness "zhcount-witness copy" $setup disk office & office=$!
         echo "return 180 1 1 525" | timeout 300 zhcount-desk 3 office
         kill $office; wait $office
-        zhcount-read disk""", cwd=tmp_path, env={"PATH": f"{unpacked}/bin:/usr/bin:/bin"})
+        zhcount-read disk
+        ls copy/night.db""", cwd=tmp_path, env={"PATH": f"{unpacked}/bin:/usr/bin:/bin"})
     assert tried.returncode == 0, tried.stdout
     assert {"stored 1", "180,1,1,525"} <= set(tried.stdout.splitlines())
 
 
 def test_keys_of_desks_let_in_the_desks_user_alone():
-    """On the second machine too: whoever types as a desk is never the user who owns disk and log."""
+    """Also on the second machine: whoever types at a desk is never the user who owns disk and log."""
     page = (TOP / "docs/OPERATING.md").read_text()
-    found = re.findall(r"`(/\S+)/\.ssh/authorized_keys`(?:(?!authorized_keys`)[\s\S])*?command=\"(zhcount-\w+)", page)
-    assert found == [("/home/desk", "zhcount-desk"), ("/var/lib/zhcount", "zhcount-witness")]
-    # (and a second key of the desks, for tables)
-    assert re.findall('command="(zhcount-\\w+)', page) == ["zhcount-desk", "zhcount-desk", "zhcount-witness"]
+    found = re.findall(r"`(/\S+)/\.ssh/authorized_keys`|command=\"([\w-]+)", page)
+    assert ["".join(it) for it in found] == ["/home/desk", "zhcount-desk", "zhcount-desk", "/var/lib/zhcount", "zhcount-witness",
+                                             "/home/lead", "cat"]
     assert "Create the same [users](#users)" in page.split("\n## A second machine\n")[1].split("\n## ")[0]
 
 
 @pytest.mark.skipif(os.getuid() != 0, reason="only root may make users and mount")
-def test_what_operating_says_works_as_it_stands(archive):
-    typed = ran(TOP / "tests/installed/operate", archive, timeout=3600)
+def test_what_operating_says_works(unpacked):
+    typed = ran(TOP / "tests/installed/operate", f"{unpacked}.tar.gz", timeout=3600)
     assert typed.returncode == 0, typed.stdout
 
 

@@ -1,20 +1,18 @@
 #!/usr/bin/env python3
 """Makes the night of a canton from a seed: night.py FOLDER [SEED].
 
-The folder gets `setup.toml`; `evening` and `night`, the lines that eight desks send before and after a stop; and
-`evening.replies` and `night.replies`, what the office answers by docs/MANUAL.md, of a sheet the first line alone.
+The folder gets `setup.toml`, and in `evening` and `night` the lines that eight desks send before and after a stop.
 """
 import pathlib
 import sys
 
 sys.dont_write_bytecode = True
 from canton import Canton, Chance
-from office import Office
 
 SEED = 2027
 DESKS = range(1, 9)
 BATCH_DESKS = (7, 8)
-EARLIEST_STOP, LATEST_STOP = 500, 1000  # moments
+STOPS = range(500, 1000)  # moments at which the stop can come
 SHEETS = range(100, 1000, 100)  # when desk 1 asks for the seats
 
 
@@ -27,7 +25,7 @@ class Desk:
         self.sent = {}  # the number under which a municipality and list were sent last
 
     def say(self, *texts):
-        self.lines += [(self.moment, f"{self.number} {text}") for text in texts]
+        self.lines += [(self.moment, self.number, f"{self.number} {text}") for text in texts]
 
     def send(self, municipality, group, votes):
         """The next number's return."""
@@ -55,18 +53,17 @@ class Desk:
     def enter(self, municipality, group, votes):
         """A return, with the mistakes that people make."""
         self.moment += self.chance.below(2)
-        place, is_in_doubt = f"{municipality} {group}", False
+        place, again = f"{municipality} {group}", []
         if (municipality, group) in self.sent:  # something is held already
             self.say(f"return {place} 1 {votes}", f"show {place}")
         elif self.chance.once_in(40):  # a wrong figure, seen at once
             self.send(municipality, group, votes + 9)
         elif self.chance.once_in(50):  # a wrong number
             self.say(f"return {place} 2 {votes}", f"show {place}")
-        else:
-            is_in_doubt = self.chance.once_in(30)
+        elif self.chance.once_in(30):
+            again = [f"return {place} 1 {votes}"]
         self.send(municipality, group, votes)
-        if is_in_doubt:  # sent again
-            self.say(f"return {place} 1 {votes}")
+        self.say(*again)
 
     def enter_batch(self, rows):
         municipality, group, votes = rows[-1]
@@ -90,19 +87,18 @@ class Desk:
 
 
 def desks_of(canton, chance):
-    desks = {number: Desk(number, canton, chance) for number in DESKS}
-    queues = {number: [] for number in DESKS}
-    for moment, m in sorted((chance.between(30, 950), m) for m in canton.municipalities()):  # as returns arrive
-        queues[1 + (m - 1) * len(DESKS) // len(canton.names)].append((moment, m))
-    for number, desk in desks.items():
-        for place, (moment, m) in enumerate(queues[number]):
-            if (number, place) == (3, 4):  # a return is entered for another municipality, and taken back there
-                other = queues[number][place + 1][1]
+    desks = [Desk(number, canton, chance) for number in DESKS]
+    arrivals = sorted((chance.between(30, 950), m) for m in canton.municipalities())
+    for desk in desks:
+        queue = [(moment, m) for moment, m in arrivals if 1 + (m - 1) * len(DESKS) // len(canton.names) == desk.number]
+        for place, (moment, m) in enumerate(queue):
+            if (desk.number, place) == (3, 4):  # a return is entered for another municipality, and taken back there
+                other = queue[place + 1][1]
                 desk.moment = max(desk.moment + 1, moment)
                 desk.send(other, 1, canton.votes[m, 1])
                 desk.withdraw(other, 1)
             desk.take(m, moment)
-            if (number, place) == (2, 5):  # a list turns out not to stand there any more
+            if (desk.number, place) == (2, 5):  # a list turns out not to stand there any more
                 group = len(canton.lists_in(m))
                 desk.say(f"reopen {m}")
                 desk.withdraw(m, group)
@@ -113,7 +109,7 @@ def desks_of(canton, chance):
 def lost_batch(lines):
     """The lines of a batch that is still open after these."""
     begun = None
-    for place, (_, line) in enumerate(lines):
+    for place, (_, _, line) in enumerate(lines):
         word = line.split()[1]
         begun = place if word == "open" else None if word in ("commit", "drop") else begun
     return [] if begun is None else lines[begun:]
@@ -127,28 +123,24 @@ def split(lines, moment):
 def merged(desks):
     """The lines before the stop, which breaks a batch, and after it, in the order in which they arrive. After it a desk first sends a lost
     batch from its beginning, or else its last line."""
-    stop = next(moment for moment in range(EARLIEST_STOP, LATEST_STOP)
-                if any(lost_batch(split(desk.lines, moment)[0]) for desk in desks.values()))
+    stop = next(it for it in STOPS if any(lost_batch(split(desk.lines, it)[0]) for desk in desks))
     before, after = split([(moment, 1, "1 sheet") for moment in SHEETS], stop)
-    for number, desk in desks.items():
+    for desk in desks:
         early, late = split(desk.lines, stop)
         lost = lost_batch(early)
         again = late[:1] + lost if lost else early[-1:]
-        before += [(moment, number, line) for moment, line in early]
-        after += [(stop, number, line) for _, line in again] + [(moment, number, line) for moment, line in late]
+        before += early
+        after += [(stop, *it[1:]) for it in again] + late
     return [[line for _, _, line in sorted(lines, key=lambda it: it[:2])] for lines in (before, after)]
 
 
 def main(folder, seed=SEED):
     chance = Chance(int(seed))
     canton = Canton(chance)
-    office, folder = Office(canton), pathlib.Path(folder)
-    (folder / "setup.toml").write_text(canton.setup())
     evening, night = merged(desks_of(canton, chance))
+    pathlib.Path(folder, "setup.toml").write_text(canton.setup())
     for name, lines in (("evening", evening), ("night", [*night, "1 final"])):
-        (folder / name).write_text("".join(f"{line}\n" for line in lines))
-        (folder / f"{name}.replies").write_text("".join(f"{office.answer(line)}\n" for line in lines))
-        office.stop()
+        pathlib.Path(folder, name).write_text("".join(f"{line}\n" for line in lines))
 
 
 if __name__ == "__main__":

@@ -12,6 +12,8 @@ class Office:
 
     def answer(self, line):
         desk, word, *numbers = line.split()
+        if word in ("row", "commit", "drop") and desk not in self.batches:
+            return f"{desk} refused nobatch"
         return f"{desk} " + getattr(self, "on_" + word)(desk, *map(int, numbers))
 
     def store(self):
@@ -64,8 +66,6 @@ class Office:
         return "held 0"
 
     def on_row(self, desk, municipality, group, number, votes):
-        if desk not in self.batches:
-            return "refused nobatch"
         rows = self.batches[desk]
         if any(row[:2] == (municipality, group) for row in rows):
             return "refused twice"
@@ -73,28 +73,25 @@ class Office:
         return f"held {len(rows)}"
 
     def on_drop(self, desk):
-        return f"dropped {len(self.batches.pop(desk))}" if desk in self.batches else "refused nobatch"
+        return f"dropped {len(self.batches.pop(desk))}"
 
     def on_commit(self, desk):
-        if desk not in self.batches:
-            return "refused nobatch"
         answers = {row: self.judge(*row) for row in self.batches[desk]}
-        for answer in answers.values():
-            if answer.startswith("refused"):
-                return answer
-        self.held.update({row[:2]: row[2:] for row, answer in answers.items() if not answer})
-        del self.batches[desk]
+        refusals = [it for it in answers.values() if it.startswith("refused")]
+        if refusals:
+            return refusals[0]
+        self.held.update({row[:2]: row[2:] for row in self.batches.pop(desk) if not answers[row]})
         return self.store() if "" in answers.values() else "same"
 
     def on_sheet(self, _desk):
-        """The first line of a sheet; or that a constituency has no votes yet."""
+        """The first line of a sheet, or that a constituency has no votes yet."""
         having = {self.canton.constituency_of[m - 1] for (m, _), (_, votes) in self.held.items() if votes}
         without = sorted({*self.canton.constituency_of} - having)
         return f"refused novotes {without[0]}" if without else f"sheet provisional {self.commands}"
 
-    def on_final(self, _desk):
+    def on_final(self, desk):
         first = next((it for it in self.canton.municipalities() if it not in self.closed), None)
-        return f"refused notclosed {first}" if first else self.on_sheet(_desk).replace("provisional", "final")
+        return f"refused notclosed {first}" if first else self.on_sheet(desk).replace("provisional", "final")
 
     def export(self):
         """What `export` writes."""
@@ -114,7 +111,3 @@ class Office:
         rows.append(f"{len(self.held)} of {due} returns, {len(self.closed)} of {len(canton.names)} municipalities closed, "
                     f"{self.commands} commands; final {final} of all returns")
         return "\n".join(rows) + "\n"
-
-    def stop(self):
-        """After a stop no desk has a batch."""
-        self.batches = {}

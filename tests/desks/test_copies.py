@@ -9,12 +9,13 @@ import signal
 
 import pytest
 
+from logs import events
 from now import NEVER, RETURNS, QuickRoom, command_of, compare, link_of, names_of_now
 from places import PROGRAM
 from processes import stand_still, stays, until
+from quiet import patient_scripts
 from room import Room, running
 from watch import Stop, WatchedRoom
-from witnessed import Witnessed
 
 ROOM = QuickRoom
 
@@ -23,17 +24,14 @@ ROOM = QuickRoom
 def test_every_ten_seconds():
     """a command that comes soon after a copy is shown ten seconds after it, without another line"""
     with Room() as room:
-        times = room.path / "times"
-        child = '["ln", "-sfn", os.path.basename(path), os.path.join(self.log.path, "now")]'
-        room.edit_script("zhcount_now.py", r"^( *)self\.at = (?=time\.m).*", rf"\g<0>\n\1print(self.at, file=open({str(times)!r}, 'a'))")
-        room.edit_script("zhcount_now.py", r"^( *)words = .*", rf"\1words = {child}")  # a child that takes no time
-        desk = room.desk(1)
-        desk.write("".join(f"{it}\n" for it in RETURNS[:2]))
+        room.edit_script("zhcount_now.py", "^PRIORITY = .*", "PRIORITY = 0")  # a busy machine would let the child wait long
         room.start()
+        until("the first", lambda: link_of(room) == "now-0")
+        first = (room.folder / "now/disk").stat().st_mtime
+        assert room.ask(1, *RETURNS[:2]).out == ["stored 1", "stored 2"]
         until("the next", lambda: names_of_now(room) == ["now", "now-2"])
-        assert [desk.answer(), desk.answer()] == ["stored 1", "stored 2"]
-        first, second, *_ = map(float, times.read_text().split())
-        assert 10 <= second - first < 60, f"after {second - first:.1f} seconds"
+        seconds = (room.folder / "now/disk").stat().st_mtime - first
+        assert 9 < seconds < 60, f"after {seconds:.1f} seconds"
         stays("nothing is copied where nothing has changed", lambda: names_of_now(room) == ["now", "now-2"])
 
 
@@ -54,28 +52,23 @@ def test_lines_meanwhile():
         compare(room, [], shown=0)
 
 
-class QuickWitnessed(QuickRoom, Witnessed):
-    """A room whose office copies the disk more often, and has a witness."""
-    is_quiet = False
-
-
-def test_copies_between_lines():
+def test_copies_between_lines(new_room):
     """the disk is copied only where no line is in the air, or waits for the witness: what no desk was shown is in no copy"""
-    with QuickWitnessed() as room:
-        room.options.append("--witness-required")
-        room.start()
-        desk = room.desk(1).talk(f"{RETURNS[0]} -> stored 1")
-        for number, process in enumerate((room.run_of_office, room.witness), 1):
-            room.shows(number)
-            room.has_all()
-            until("its child has ended", lambda: not room.child())
-            pid = process()
-            stand_still(pid)
-            room.note(desk, RETURNS[number])
-            stays("nothing is copied", lambda it=number: not room.child() and names_of_now(room) == ["now", f"now-{it}"], 3)
-            os.kill(pid, signal.SIGCONT)
-            assert desk.answer() == f"stored {number + 1}"
-        room.shows(3)
+    room, copy, script = new_room, new_room.path / "copy", str(new_room.scripts / "zhcount-witness")
+    room.scripts = patient_scripts(room.scripts)
+    room.start("--witness-required", "--witness", f"{script} {copy}")
+    desk = room.desk(1).talk(f"{RETURNS[0]} -> stored 1")
+    for number, word in enumerate(("run", script), 1):
+        room.shows(number)
+        until("the witness has all", lambda: room.events() == events(copy))
+        until("its child has ended", lambda: not room.child())
+        pid = until(word, lambda it=word: room.child(it))
+        stand_still(pid)
+        room.note(desk, RETURNS[number])
+        stays("nothing is copied", lambda it=number: not room.child() and names_of_now(room) == ["now", f"now-{it}"], 3)
+        os.kill(pid, signal.SIGCONT)
+        assert desk.answer() == f"stored {number + 1}"
+    room.shows(3)
 
 
 def test_copy_of_other_commands(new_room):
@@ -94,39 +87,26 @@ def test_copy_of_another_disk(new_room):
     new_room.ends(3, "is no longer the file")
 
 
-def test_failed_disk():
-    """after `device` nothing is copied"""
-    with QuickRoom(every=0) as room:
-        room.edits_answers("s/stored 2/refused device/")
-        room.start()
-        desk = room.desk(1).talk(f"{RETURNS[0]} -> stored 1")
-        room.shows(1)
-        desk.write(f"{RETURNS[1]}\n")
-        room.ends(3)
-        assert names_of_now(room) == ["now", "now-1"], "what `now` shows"
-
-
 # The child
 
 
-def test_late_child():
-    """of a child that is killed the log says so, and another one does its work; one that takes too long is killed, with what it has
-    started, and desks are answered meanwhile"""
-    with QuickRoom() as room:
-        late, is_said = room.is_patient(), "could not be renewed: its process was killed after "
-        room.start_held()
-        os.kill(room.working(), signal.SIGKILL)
-        room.office.says(is_said)
-        room.goes_on()
-        compare(room, [])
-        room.held.touch()
-        assert room.ask(1, RETURNS[0]).out == ["stored 1"], "the answer meanwhile"
-        until("a question about a copy", room.left_over)
-        late.touch()
-        until("that one is killed too", lambda: room.office.said().count(is_said) > 1)
-        room.stop()
-        until("nothing is left", lambda: not room.left_over())
-        assert names_of_now(room) == ["now", "now-0"], "and no folder"
+def test_late_child(new_room):
+    """if a child is killed the log says so, and another one does its work; one that takes too long is killed, with what it has started,
+    and desks are answered all the time"""
+    late, is_said = new_room.is_patient(), "could not be renewed: its process was killed after "
+    new_room.start_held()
+    os.kill(new_room.working(), signal.SIGKILL)
+    new_room.office.says(is_said)
+    new_room.goes_on()
+    compare(new_room, [])
+    new_room.held.touch()
+    assert new_room.ask(1, RETURNS[0]).out == ["stored 1"], "the answer while the child is late"
+    until("a question about a copy", new_room.left_over)
+    late.touch()
+    until("that one is killed too", lambda: new_room.office.said().count(is_said) > 1)
+    new_room.stop()
+    until("nothing is left", lambda: not new_room.left_over())
+    assert names_of_now(new_room) == ["now", "now-0"], "and no folder"
 
 
 def test_no_room(new_room):
@@ -173,7 +153,7 @@ def test_ends_without_its_child():
 
 
 class InNow(Stop):
-    """A stop or a fault of the office, or of its child, at the call of this number in `now`, while that shows another command."""
+    """A stop, or a fault, of the office or of its child at the call of this number in `now`, while that shows another command."""
 
     def __init__(self, scripts, fault, number=0):
         super().__init__(number)
@@ -204,7 +184,7 @@ class InNow(Stop):
             self.until("now-2 alone", lambda: link_of(room) == "now-2" and names_of_now(room) == ["now", "now-2"])
             assert (room.folder / "now/held.csv").read_text().split()[1:] == ["1,1,1,525", "1,2,1,300"]
         assert all(self.has_shown) or self.number and not self.fault, "it leads to something each time"
-        return self
+        return self.calls
 
     def until(self, what, holds):
         """Waits until something holds, and starts the office again where it was stopped."""
@@ -217,7 +197,7 @@ class InNow(Stop):
 def test_stopped(new_room, fault):
     """kill -9, or a fault, at each call of the office and its child that makes, changes or removes something of `now`: all is shown in the
     end, and nothing else. Where nothing is stopped it always leads to a folder that is there"""
-    calls = InNow(new_room.scripts, fault).run().calls
+    calls = InNow(new_room.scripts, fault).run()
     assert calls > 15, f"calls: {calls}"
     with concurrent.futures.ThreadPoolExecutor(5) as pool:
         list(pool.map(lambda number: InNow(new_room.scripts, fault, number).run(), range(1, calls + 1)))

@@ -1,31 +1,28 @@
-"""Eight desks over a real sshd, each with a key of its own, some 500 lines each side by side. Then what a key can't do. Then a witness
-that is reached by ssh: the office's machine is lost at 50 moments, with eight desks that stand beside it, as 400 connections would take
-minutes; and the network hangs. LINES takes another number of lines, LOSSES of losses."""
+"""Desks over a real sshd, each with a key of its own, and what a key can't do. Then a witness that is reached by ssh: the office's machine
+is lost at 50 moments, with eight desks without ssh, since 400 connections would take minutes; and the network hangs. LOSSES takes another
+number of losses."""
 import concurrent.futures
-import contextlib
-import getpass
 import os
 import pathlib
 import re
 import shlex
+import shutil
 import signal
 import subprocess
 import time
 
 import pytest
 
+from now import command_of
 from processes import SECONDS, Desk, until
 from room import Room, running
-from witnessed import BusyDesks, Witnessed
+from witnessed import Witnessed
 
-LINES = int(os.environ.get("LINES", "500"))
 LOSSES = int(os.environ.get("LOSSES", "50"))
 CONFIG = """HostKey {folder}/host
 AuthorizedKeysFile {folder}/keys
 StrictModes no
 UsePAM no
-PasswordAuthentication no
-KbdInteractiveAuthentication no
 PermitRootLogin forced-commands-only
 ClientAliveInterval 5
 ClientAliveCountMax 3
@@ -64,72 +61,48 @@ class SshRoom(Room):
         settings = ["BatchMode=yes", "IdentitiesOnly=yes", "StrictHostKeyChecking=no", f"UserKnownHostsFile={self.keys}/known",
                     f"ProxyCommand=setsid /usr/sbin/sshd -i -f {self.keys}/config"]
         options = [it for setting in settings for it in ("-o", setting)]
-        return ["ssh", "-F", "/dev/null", "-i", f"{self.keys}/{key}", *options, f"{getpass.getuser()}@office", *map(str, words)]
+        return ["ssh", "-F", "/dev/null", "-i", f"{self.keys}/{key}", *options, "office", *map(str, words)]
 
     def desk(self, number, *_):
         return self.process(Desk, self.words(number, "-T"))
 
     def ran_by_ssh(self, key, *words, text="show 1 1\n"):
-        """What ssh with this key does with this input: its status, and what it writes."""
-        ran = subprocess.run(self.words(key, *words), input=text, capture_output=True, text=True, timeout=SECONDS)
-        return ran.returncode, ran.stdout, ran.stderr
+        """What ssh with this key does with this input."""
+        return subprocess.run(self.words(key, *words), input=text, capture_output=True, text=True, timeout=SECONDS)
+
+    def is_at_work(self, number):
+        """Whether this desk runs at the other end of a connection."""
+        words = os.fsencode(f"zhcount-desk\0{number}\0{self.folder}\0")
+        return any(words in command_of(it) for it in os.listdir("/proc"))
 
 
 ROOM = SshRoom
 
 
-def test_side_by_side(room):
-    """eight desks over ssh, two connections cut in the middle of a line, the office killed twice"""
-    entering = BusyDesks(room, 1)
-    entering.enter(4 * LINES)
-    entering.until_shown(2 * LINES)
-    room.restart()
-    for number in (2, 6):
-        desk, lines = entering.desks[number], entering.lines[number]
-        until(f"the answers to {len(lines)} lines", lambda its=desk.out, all=lines: len(its) == len(all))
-        desk.write("return 1 1 ")
-        time.sleep(0.3)
-        desk.kill()
-        desk.wait()
-        until("another one is connected, once the one before has let go", lambda it=number: connects(entering, it))
-        entering.desks[number].says(f"before: {lines[-1]}: {desk.out[-1]}")
-    entering.enter(4 * LINES)
-    entering.until_shown(5 * LINES)
-    room.restart()
-    assert [it.end() for it in entering.desks.values()] == [0] * 8, "the ends of the desks"
-    assert "the same: " in room.check(entering.lines), "a replay"
-
-
-def connects(entering, number):
-    desk = entering.desks[number] = entering.room.desk(number)
-    until(lambda: f"desk {number} is let in: {desk.said()}", lambda: desk.is_let_in() or desk.has_ended())
-    return desk.is_let_in()
-
-
 def test_a_key_is_a_desk(room):
-    """a key speaks for no other desk, opens no shell, forwards no port, and a dead connection lets go"""
+    """eight keys are eight desks at once; a key speaks for no other desk, opens no shell and forwards no port. A connection that is cut
+    within a line lets go at once, and a dead one after a while"""
+    desks = [room.desk(number).talk(f"return 1 1 {number} 525 -> stored {number}") for number in range(1, 9)]
+    desks[2].write("return 1 1 9")
+    desks[2].kill()
+    until("desk 3 has ended", lambda: not room.is_at_work(3))
     other = room.script("zhcount-desk", 4, room.folder)
-    _, out, error = room.ran_by_ssh(3, *other, text="return 1 1 1 525\n4 return 1 1 2 5\n")
-    assert out == "stored 1\nrefused syntax\n", f"the answers to desk 3: {error}"
+    ran = room.ran_by_ssh(3, *other, text="show 1 1\n4 return 1 1 9 5\n")
+    assert ran.stdout == "shows 8 525\nrefused syntax\n" and "before: return 1 1 3 525: stored 3" in ran.stderr, f"desk 3 is shown {ran}"
     for command in ("echo hello", "sh"):
-        assert room.ran_by_ssh(3, command)[1] == "shows 1 525\n", f"no shell by {command}"
-    assert room.ran_by_ssh(3, "-s", "sftp")[0], "no other service"
-    _, out, error = room.ran_by_ssh(3, "-tt", text="echo $((6 * 7))\n")
-    assert "42" not in out and "PTY allocation request failed" in error, "no terminal"
+        assert room.ran_by_ssh(3, command).stdout == "shows 8 525\n", f"no shell by {command}"
+    assert room.ran_by_ssh(3, "-s", "sftp").returncode, "no other service"
+    ran = room.ran_by_ssh(3, "-tt", text="echo $((6 * 7))\n")
+    assert "42" not in ran.stdout and "PTY allocation request failed" in ran.stderr, "no terminal"
     for options in (["-W", "127.0.0.1:9"], ["-N", "-o", "ExitOnForwardFailure=yes", "-R", "0:127.0.0.1:9"]):
-        status, out, error = room.ran_by_ssh(3, *options)
-        assert status == 255 and re.search("prohibited|remote port forwarding failed", error), f"no port by {options}"
-    assert room.ran_by_ssh(9)[0] == 255, "another key"
-    first = []
-
-    def is_refused():
-        """Whether a second connection is refused beside the first; after a while it takes the place of that."""
-        first.append(room.desk(5).talk("show 1 1 -> shows 1 525"))
-        return "another connection has this desk" in room.ran_by_ssh(5)[2]
-    until("the second is refused", is_refused)
-    first[-1].kill(signal.SIGSTOP)
-    until("it is let in when the first is dead", lambda: room.ran_by_ssh(5)[1] == "shows 1 525\n")
-    room.check({4: []})
+        ran = room.ran_by_ssh(3, *options)
+        assert ran.returncode == 255 and re.search("prohibited|remote port forwarding failed", ran.stderr), f"no port by {options}"
+    assert room.ran_by_ssh(9).returncode == 255, "another key"
+    desks[4].talk("show 1 1 -> shows 8 525")
+    assert "another connection has this desk" in room.ran_by_ssh(5).stderr, "a second one is refused"
+    desks[4].kill(signal.SIGSTOP)
+    until("it is let in when the first is dead", lambda: room.ran_by_ssh(5).stdout == "shows 8 525\n")
+    room.check({4: ["return 1 1 4 525"]})
 
 
 def test_table(room):
@@ -137,25 +110,15 @@ def test_table(room):
     room.adds_key("table", *room.script("zhcount-desk", 3, room.folder, "--csv", "-"))
     cut, text = room.desk("table"), "\ufeffGemeinde;Liste;Fassung;Stimmen\r\n1;1;1;525\r\n1;2;1;300\r\n"
     cut.write(text)
-    there = until("the desk reads", lambda: reading(room))
+    until("the desk reads", lambda: room.is_at_work(3))
+    time.sleep(1)
     cut.kill()
-    until("the desk has ended", lambda: not there.exists())
+    until("the desk has ended", lambda: not room.is_at_work(3))
     assert room.noted() == [], "nothing is sent"
     for answer in ("stored 1", "same"):
-        status, out, error = room.ran_by_ssh("table", "-T", "show 1 1", text=f"{text}3;1;1;90\r\n")
-        assert (status, out) == (0, f"{answer}\n"), f"it is in: {error}"
+        ran = room.ran_by_ssh("table", "-T", "show 1 1", text=f"{text}3;1;1;90\r\n")
+        assert (ran.returncode, ran.stdout) == (0, f"{answer}\n"), f"it is in: {ran.stderr}"
     room.check({3: ["open", "row 1 1 1 525", "row 1 2 1 300", "row 3 1 1 90", "commit"] * 2})
-
-
-def reading(room):
-    """The process of the desk that has read some of a table from its standard input, and waits for more."""
-    for it in pathlib.Path("/proc").glob("[0-9]*"):
-        with contextlib.suppress(OSError):
-            is_desk = (it / "cmdline").read_bytes().endswith(b"%s\0--csv\0-\0" % os.fsencode(room.folder))
-            # It asks for 1 MB at first, and then for less.
-            if is_desk and re.match(r"0 0x0 \S+ 0x[0-9a-f]{1,5} ", (it / "syscall").read_text()):
-                return it
-    return None
 
 
 def reaching(room, other, name="witness"):
@@ -167,30 +130,50 @@ def reaching(room, other, name="witness"):
 
 def test_machine_is_lost(new_room):
     """whatever desks were shown holds at a witness by ssh, whenever the office's machine was lost; the night goes on there"""
-    def night(seed):
-        with running(reaching(Witnessed("--witness-required", on_device=True), new_room, f"witness{seed}")) as room:
-            entering = BusyDesks(room, seed)
-            entering.enter(200)
-            entering.until_shown(entering.chance.randint(1, 100))
-            time.sleep(entering.chance.random() / 50)
-            return entering.lose_office()
+    lines = {it: [f"return {1 + it % 3} {1 + it // 3} {number} 525" for number in range(1, 26)] for it in range(1, 9)}
+
+    def night(loss):
+        with running(reaching(Witnessed("--witness-required"), new_room, f"witness{loss}")) as room:
+            desks, least = {it: room.desk(it) for it in lines}, 1 + 2 * loss % 100
+            for it, desk in desks.items():
+                desk.write("".join(f"{line}\n" for line in lines[it]))
+            until(f"{least} answers", lambda: sum(len(it.out) for it in desks.values()) >= least)
+            time.sleep(loss % 10 / 500)
+            burns(room)
+            room.moves()
+            room.start()
+            for it, desk in desks.items():
+                assert room.of_desk(it)[:len(desk.out)] == list(zip(lines[it], desk.out)), f"what desk {it} was shown"
+            assert room.ask(1, "show 3 3").out, "the night goes on"
+            room.check()
+            return sum(len(it.out) for it in desks.values())
 
     with concurrent.futures.ThreadPoolExecutor(6) as pool:
         shown = list(pool.map(night, range(LOSSES)))
     assert sum(shown) > 20 * LOSSES, f"answers were shown: {shown}"
 
 
+def burns(room):
+    """The machine of the office and the desks is lost, with all that is not the witness's."""
+    machine = [*(it.process.pid for it in room.processes), *room.children_of(room.office)]
+    subprocess.run(["kill", "-KILL", *map(str, machine)], stderr=subprocess.DEVNULL)  # some end with the office
+    for it in room.processes:
+        it.wait()
+    shutil.rmtree(room.folder)
+    room.disk.unlink()
+
+
 @pytest.mark.xdist_group("times")
 def test_network_hangs(new_room):
-    """where the way to the witness hangs the answer is shown after five seconds, and that there is none, and the next ones at once; a new
-    connection has the folder once the witness before it has heard nothing for a while"""
-    with running(reaching(Witnessed().measures("PATIENCE", "SILENCE"), new_room)) as room:
+    """where the way to the witness hangs the answer is shown after five seconds, with the news that the witness is away, and the next ones
+    at once; a new connection has the folder once the witness before it has heard nothing for a while"""
+    with running(reaching(Witnessed(measures=["PATIENCE", "SILENCE"]), new_room)) as room:
         desk, is_there = room.desk(1).talk("return 1 1 1 525 -> stored 1"), "the witness has been connected since"
-        until("it is there", lambda: room.said_of_it().startswith(is_there))
+        room.says_of_it(is_there)
         room.has_all()
         times = room.office.said().count(is_there)
         hung = int(re.search(r"PPid:\t(\d+)", pathlib.Path(f"/proc/{room.witness()}/status").read_text())[1])
-        assert b"sshd" in pathlib.Path(f"/proc/{hung}/cmdline").read_bytes(), "it is sshd"
+        assert b"sshd" in command_of(hung), "it is sshd"
         os.kill(hung, signal.SIGSTOP)
         try:
             begun = time.monotonic()
@@ -205,4 +188,5 @@ def test_network_hangs(new_room):
         finally:
             os.kill(hung, signal.SIGCONT)
         desk.talk("return 2 1 1 240 -> stored 13")
+        room.has_all()
         room.check()

@@ -1,13 +1,11 @@
 """Rooms of the tests on real files."""
-from pathlib import Path
-
 import pytest
 
 from real_files import Room
 
 
 @pytest.fixture
-def room(program: Path, tmp_path: Path) -> Room:
+def room(program, tmp_path) -> Room:
     return Room(program, tmp_path)
 
 

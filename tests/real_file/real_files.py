@@ -5,30 +5,21 @@ import random
 import subprocess
 from contextlib import contextmanager
 from pathlib import Path
-from typing import Iterator, NamedTuple, Optional, Sequence, Tuple, Union
+from typing import Iterator, NamedTuple, Optional, Sequence, Union
 
 from places import REHEARSAL
+from processes import SECONDS, Process
 
 # From docs/FORMATS.md: the length of a disk, the start of its journal and the length of a page.
 DISK, JOURNAL, PAGE = 1118720, 332032, 256
 SEED = int(os.environ.get("SEED", "20270404"))
-PATIENCE = 600  # seconds: no test is about time, and a machine may have other work
 Ran = NamedTuple("Ran", [("status", int), ("out", str), ("said", str)])
+Task = Union[str, Sequence[str]]  # a text with blanks between its words, or a list
 
 
-def bash(script: str) -> Tuple[str, ...]:
+def bash(script: str) -> tuple:
     """The words before a command that this script runs as "$@"."""
     return "bash", "-c", script, "bash"
-
-
-def closed(streams: str) -> Tuple[str, ...]:
-    """The words before a command that is run with these redirections."""
-    return bash(f'exec "$@" {streams}')
-
-
-def limited(kibibytes: int) -> Tuple[str, ...]:
-    """The words before a command for which no file grows beyond so many: a write there fails."""
-    return bash(f"trap '' XFSZ; ulimit -f {kibibytes}; exec \"$@\"")
 
 
 def returns(municipality: int, first: int, last: int) -> str:
@@ -41,7 +32,7 @@ def stored(first: int, last: int) -> str:
 
 
 def shows(number: int) -> str:
-    """What a run shows for list 1 of a municipality after so many returns."""
+    """What a run shows for list 1 of a municipality after this many returns."""
     return f"1 shows {number} {7 * number}\n" if number else "1 none\n"
 
 
@@ -53,19 +44,25 @@ class Room:
         self.chance = random.Random(SEED)
         (path / "kinds").mkdir()
 
-    def words(self, task: Union[str, Sequence[str]], setup: Optional[str] = None) -> Sequence[str]:
-        """The arguments of a task, a text with blanks between them or a list, with the set-up."""
+    def words(self, task: Task, setup: Optional[str] = None) -> Sequence[str]:
+        """The arguments of a task, with the set-up."""
         name, *rest = task.split() if isinstance(task, str) else task
         return [str(self.program), name, "--setup", setup or self.setup, *rest]
 
-    def run(self, task: Union[str, Sequence[str]], lines: str = "", before: Sequence[str] = (), setup: Optional[str] = None) -> Ran:
+    def run(self, task: Task, lines: str = "", before: Sequence[str] = (), setup: Optional[str] = None) -> Ran:
         """What a task does with these lines as its input, and its output in a file. `before` are words before the command."""
         with open(self.path / "out", "wb") as out:
             ran = subprocess.run([*before, *self.words(task, setup)], cwd=self.path, input=lines.encode(), stdout=out,
-                                 stderr=subprocess.PIPE, timeout=PATIENCE)
+                                 stderr=subprocess.PIPE, timeout=SECONDS)
         return Ran(ran.returncode, *(it.decode(errors="replace") for it in ((self.path / "out").read_bytes(), ran.stderr)))
 
-    def ends(self, task: Union[str, Sequence[str]], status: int = 0, fault: str = "", out: Optional[str] = "", **how) -> str:
+    def begun(self, disk: str, lines: str) -> Process:
+        """A run on a disk that has these lines as its input so far."""
+        run = Process(self.words(["run", "--disk", str(self.path / disk)]), {})
+        run.write(lines)
+        return run
+
+    def ends(self, task: Task, status: int = 0, fault: str = "", out: Optional[str] = "", **how) -> str:
         """The output of a task that ends with this status, this fault, or none, and this output, or any."""
         ran = self.run(task, **how)
         assert ran == (status, ran.out if out is None else out, f"zhcount: {fault}\n" if fault else ""), f"{task}: {ran}"
@@ -75,7 +72,7 @@ class Room:
         self.ends(["run", "--disk", disk], out=replies, lines=lines)
 
     def takes_a_new_disk(self, path: str) -> None:
-        """What a format left that did not end is taken by the next one."""
+        """A format takes what one that did not end has left."""
         self.ends(["format", "--disk", path])
         self.serves(path, "1 show 1 1\n1 return 1 1 1 7\n", "1 none\n1 stored 1\n")
 

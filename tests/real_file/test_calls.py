@@ -22,12 +22,10 @@ class Folder(Room):
 
     def __init__(self, library, program, path):
         super().__init__(program, path)
-        self.preloaded, self.disk, self.before = Preloaded(library, path), path / "kinds/d", None
+        self.preloaded, self.disk = Preloaded(library, path), path / "kinds/d"
         self.ends(FORMAT)
         returns = "".join(f"1 return {1 + k // 3} {1 + k % 3} 1 {votes}\n" for k, votes in enumerate(VOTES))
-        answers = self.ends(f"run {DISK}", out=None, lines=returns + "1 sheet\n").splitlines(keepends=True)
-        assert len(answers) == len(VOTES) + 20
-        (path / "sheet").write_text("".join(answers[len(VOTES):]))
+        (path / "sheet").write_text(self.ends(f"run {DISK}", out=None, lines=f"{returns}1 sheet\n").partition("stored 9\n")[2])
         (path / "held.csv").write_text(self.ends(f"export {DISK}", out=None))
         self.before = self.disk.read_bytes()
 
@@ -37,15 +35,14 @@ class Folder(Room):
 
     def clear(self):
         """Leaves nothing but the disk."""
-        self.disk.parent.mkdir(exist_ok=True)
         for it in self.disk.parent.iterdir():
             it.unlink()
         if self.before:
             self.disk.write_bytes(self.before)
 
     def each_failing(self, what, task):
-        """The runs of a task in which a call (FAIL) or an allocation (REFUSE) fails, but those that do without it: they say what one does
-        in which none fails."""
+        """The runs of a task in which a call (FAIL) or an allocation (REFUSE) fails, except those that succeed without it: these do what a
+        run does in which none fails."""
         self.clear()
         whole = self.failing(task, "lines")
         assert whole.status == 0
@@ -59,9 +56,6 @@ class Folder(Room):
             else:
                 yield number, it
         assert number > 1
-
-    def is_as_before(self):
-        return self.disk.read_bytes() == self.before
 
 
 @pytest.fixture
@@ -86,13 +80,13 @@ def test_allocation_is_refused(task, folder):
     for number, it in folder.each_failing("REFUSE", task):
         assert it.status == 1 and it.out + it.said in faults, f"without allocation {number}: {it}"
         if folder.before:
-            assert folder.is_as_before(), f"the disk without allocation {number}"
+            assert folder.disk.read_bytes() == folder.before, f"the disk without allocation {number}"
         else:
             folder.takes_a_new_disk("kinds/d")
 
 
 def test_allocation_is_refused_to_a_rehearsal(folder):
-    """Its disk is in memory: a refused allocation is a fault of the disk while lines are answered, and `memory` before."""
+    """Its disk is in memory: a refused allocation is a fault of the disk while lines are answered, and `memory` before that."""
     (folder.path / "lines").write_text("1 return 1 1 1 525\n1 show 1 1\n")
     assert folder.failing("", "lines")[:3] == (0, "1 stored 1\n1 shows 1 525\n", REMARK)
     ends = {it[:3] for _, it in folder.each_failing("REFUSE", "")}
@@ -109,8 +103,8 @@ def test_allocation_is_refused_to_a_rehearsal(folder):
     ("check --sheet sheet --held held.csv", ["setup file", "sheet file", "held file"], []), ("list --of returns", ["setup file"], []),
 ])
 def test_call_fails(task, faults, replies, folder):
-    """The task says nothing, or one of these replies, and these faults come, in this order. Then the disk is as it was, or, of a task that
-    stores, holds the return."""
+    """The task says nothing, or one of these replies, and these faults come, in this order. Afterwards the disk is as it was, or holds the
+    return if the task stores it."""
     (folder.path / "lines").write_text("1 return 1 1 2 530\n")
     (folder.path / "returns.csv").write_text(HEAD + "1,1,2,530\n")
     found = []
@@ -125,21 +119,18 @@ def test_call_fails(task, faults, replies, folder):
             shown = folder.ends(f"run {DISK}", out=None, lines="1 show 1 1\n")
             assert shown in ("1 shows 1 525\n", "1 shows 2 530\n"), f"after {number} calls"
         else:
-            assert folder.is_as_before(), f"the disk without call {number}"
+            assert folder.disk.read_bytes() == folder.before, f"the disk without call {number}"
     assert [it.replace("zhcount: ", "") for it, _ in itertools.groupby(found)] == faults
 
 
 def test_call_of_a_format_fails(folder):
     """The file is empty, or has its space."""
     folder.before, emptied = None, 0
-    for number in itertools.count(1):
-        folder.clear()
-        if not folder.failing(FORMAT, FAIL=number).is_reached:
-            break
-        if folder.disk.exists():
-            is_empty = folder.disk.stat().st_size == 0
-            emptied += is_empty
-            assert is_empty or folder.has_its_space("kinds/d"), f"after call {number}"
+    (folder.path / "lines").touch()
+    for number, _ in folder.each_failing("FAIL", FORMAT):
+        is_empty = not folder.disk.exists() or folder.disk.stat().st_size == 0
+        emptied += is_empty
+        assert is_empty or folder.has_its_space("kinds/d"), f"after call {number}"
         assert folder.run(FORMAT) in ((0, "", ""), (1, "", "zhcount: disk inuse\nkinds/d\n")), f"a format after call {number}"
         assert folder.has_its_space("kinds/d"), f"after call {number}, and a format"
     assert emptied > 100
@@ -153,7 +144,7 @@ def test_call_of_a_format_fails(folder):
     ("list --of returns --municipality 2", 0),
 ])
 def test_stream_is_closed(task, status, folder):
-    """Of the output a front comes, and the fault is write. Standard error changes neither output nor status."""
+    """The output breaks off, and the fault is write. Standard error changes neither output nor status."""
     (folder.path / "refused.csv").write_text(HEAD + "1,1,1,14\n")
     (folder.path / "wrong").write_text((folder.path / "sheet").read_text().replace("\nhouse 10\n", "\nhouse 11\n"))
     whole = folder.failing(task)
@@ -162,4 +153,4 @@ def test_stream_is_closed(task, status, folder):
         assert folder.failing(task, OUTPUT=length)[:3] == (1, whole.out[:length], "zhcount: write\n")
     for length in range(len(whole.said)):
         assert folder.failing(task, ERRORS=length)[:3] == (status, whole.out, whole.said[:length])
-    assert folder.is_as_before()
+    assert folder.disk.read_bytes() == folder.before

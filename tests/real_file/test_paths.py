@@ -1,8 +1,6 @@
 """Files that are no disks, links, files beside the disk, and what can't be read or made."""
 import os
-import shutil
 import subprocess
-from pathlib import Path
 from typing import Sequence
 
 import pytest
@@ -55,15 +53,6 @@ def test_what_is_no_disk_is_refused(room: Room) -> None:
         refused(room, "kinds/file", f"{length} bytes instead of {DISK}", "disk size")
 
 
-def test_a_file_with_a_second_name_is_refused(room: Room) -> None:
-    room.ends("format --disk kinds/d")
-    os.link(room.path / "kinds/d", room.path / "kinds/other")
-    refused(room, "kinds/d", ONE_NAME)
-    refused(room, "kinds/other", ONE_NAME)
-    (room.path / "kinds/other").unlink()
-    room.serves("kinds/d", returns(1, 1, 1), "1 stored 1\n")
-
-
 def test_a_link_leads_to_its_disk(room: Room) -> None:
     room.ends("format --disk kinds/d")
     (room.path / "link").symlink_to("kinds/d")
@@ -74,9 +63,14 @@ def test_a_link_leads_to_its_disk(room: Room) -> None:
 
 
 def test_files_beside_the_disk(room: Room) -> None:
-    """A stop may leave the empty file that an opening makes beside the disk. One that holds something stays."""
+    """A stop can leave the empty file that an opening makes beside the disk. One that contains something stays. A disk with a second name
+    is refused."""
     room.ends("format --disk kinds/d")
-    wal, journal = room.path / "kinds/d-wal", room.path / "kinds/d-journal"
+    wal, journal, other = (room.path / f"kinds/{it}" for it in ("d-wal", "d-journal", "other"))
+    os.link(room.path / "kinds/d", other)
+    refused(room, "kinds/d", ONE_NAME)
+    refused(room, "kinds/other", ONE_NAME)
+    other.unlink()
     wal.touch()
     room.serves("kinds/d", returns(1, 1, 1), "1 stored 1\n")
     assert room.names() == ["d"]
@@ -106,13 +100,6 @@ def test_a_name_of_247_bytes_is_a_disk_and_a_longer_one_is_not(room: Room) -> No
     refused(room, f"{name}x", "the name is too long")
 
 
-@pytest.mark.parametrize("task", ["run --disk kinds/d", "load --disk kinds/d --csv returns.csv", "export --disk kinds/d"])
-def test_no_task_makes_a_file_that_is_missing(task: str, room: Room) -> None:
-    (room.path / "returns.csv").write_text("municipality,list,number,votes\n")
-    room.ends(task, 1, f"disk device\nkinds/d: {GONE}")
-    assert room.names() == []
-
-
 def test_a_disk_that_is_made_is_for_its_owner_alone(room: Room) -> None:
     """A file that is there keeps its mode."""
     room.ends("format --disk kinds/d", before=bash('umask 0; exec "$@"'))
@@ -125,37 +112,20 @@ def test_a_disk_that_is_made_is_for_its_owner_alone(room: Room) -> None:
 
 
 def test_no_permission_for_a_file_or_its_folder(room: Room) -> None:
-    """Without the rights of root: root runs it as another user."""
-    as_other = ["setpriv", "--reuid=65534", "--regid=65534", "--clear-groups"] if os.getuid() == 0 else []
-    if as_other and (not shutil.which("setpriv") or subprocess.run([*as_other, "true"], stderr=subprocess.DEVNULL).returncode):
-        pytest.skip("as root, and no other user can be taken")
-    for it in [room.path, *room.path.parents]:
-        if not it.stat().st_mode & 1:
-            it.chmod(it.stat().st_mode | 0o111)
-    kinds = room.path / "kinds"
-    kinds.chmod(0o755)
-    room.program = Path(shutil.copy(room.program, kinds))
-    room.setup = shutil.copy(room.setup, kinds)
-    Path(room.setup).chmod(0o644)
+    """Root has to run it without the right to pass over permissions."""
+    dropped = "-dac_override,-dac_read_search"
+    before = bash(f'exec setpriv --inh-caps={dropped} --bounding-set={dropped} "$@"' if os.getuid() == 0 else 'exec "$@"')
+    if subprocess.run([*before, "true"], stderr=subprocess.DEVNULL).returncode:
+        pytest.skip("as root, and setpriv can't take the right away")
     room.ends("format --disk denied")
+    (room.path / "kinds").chmod(0o500)
     for name in ("denied", "denied.setup", "denied.sheet"):
         (room.path / name).touch()
         (room.path / name).chmod(0)
     for task, fault, path in (("export --disk denied", "disk device", "denied"), ("format --disk kinds/new", "disk device", "kinds/new"),
                               ("check --sheet denied.sheet", "sheet file", "denied.sheet")):
-        room.ends(task, 1, f"{fault}\n{path}: no permission", before=as_other)
-    room.ends("list --of groups", 1, "setup file\ndenied.setup: no permission", before=as_other, setup="denied.setup")
-
-
-def test_a_record_without_an_end_is_refused(disk: Room) -> None:
-    """It is read no further than a record may go on, by a load and a dry run."""
-    begun, from_stdin = "municipality,list,number,votes\n1,1,1,7\n1,2,1,\"", bash('cat - /dev/zero 2> none | "$@"')
-    with disk.untouched():
-        disk.ends("load --disk d --csv /dev/zero", 1, out="refused csv\n")
-        disk.ends("load --disk d --csv /dev/zero --dry-run", 1, out=f"row 1: {'?' * 3000} refused csv\nrefused 1 of 1 records\n")
-        disk.ends("load --disk d --csv /dev/stdin", 1, out="refused csv\n", before=from_stdin, lines=begun)
-        out = disk.ends("load --disk d --csv /dev/stdin --dry-run", 1, out=None, before=from_stdin, lines=begun)
-    assert out.endswith("\nrefused 1 of 2 records\n")
+        room.ends(task, 1, f"{fault}\n{path}: no permission", before=before)
+    room.ends("list --of groups", 1, "setup file\ndenied.setup: no permission", before=before, setup="denied.setup")
 
 
 @pytest.mark.parametrize("task, fault", [
@@ -170,15 +140,14 @@ def test_a_text_that_can_not_be_read(task: str, fault: str, room: Room) -> None:
     room.ends(task, 1, fault)
 
 
-@pytest.mark.parametrize("table", ["constituencies", "municipalities", "groups", "lists", "problems", "returns"])
 @pytest.mark.parametrize("path, shown", [
     ("none.toml", f"none.toml: {GONE}"), ("kinds", "kinds: is a folder"),
     ("a\tb\nc\x7fd\u0085e\ufefff", f"a?b?c?d?e?f: {GONE}"), ("./d\u00fcr/../x", f"./d\u00fcr/../x: {GONE}"),
     ("x" * 4200, f"{'x' * 4096}: the name is too long"),
 ], ids=["none", "a folder", "control characters", "no control characters", "a long path"])
-def test_a_set_up_that_is_not_there(path: str, shown: str, table: str, room: Room) -> None:
+def test_a_set_up_that_is_not_there(path: str, shown: str, room: Room) -> None:
     """The fault shows its path as it was given."""
-    room.ends(f"list --of {table}", 1, f"setup file\n{shown}", setup=path)
+    room.ends("list --of groups", 1, f"setup file\n{shown}", setup=path)
     assert sorted(os.listdir(room.path)) == ["kinds", "out"]
 
 

@@ -1,97 +1,98 @@
-"""Two programs on one disk, and copies of it that are made while a run goes on."""
+"""Two programs on one disk, copies of it that are made while a run goes on, and kill -9 at random moments. (Cases stop a program at each
+call.)"""
 import shutil
-import subprocess
 import time
-from contextlib import contextmanager
-from typing import Callable, Iterator
 
-from real_files import PATIENCE, Room, returns, shows, stored
+import pytest
 
+from processes import until
+from real_files import SEED, Room, returns, shows, stored
 
-def replies_of(room: Room) -> int:
-    return (room.path / "replies").read_bytes().count(b"\n")
-
-
-@contextmanager
-def running(room: Room, disk: str, replies: str) -> Iterator[Callable[[str, int], None]]:
-    """A run on a disk, which is told lines, until it has given so many replies or more. At the end it has given these."""
-    with open(room.path / "replies", "wb") as out:
-        with subprocess.Popen(room.words(["run", "--disk", disk]), cwd=room.path, stdin=subprocess.PIPE, stdout=out,
-                              stderr=subprocess.PIPE, text=True) as run:
-            def tell(lines: str, least: int) -> None:
-                assert run.stdin
-                run.stdin.write(lines)
-                run.stdin.flush()
-                end = time.monotonic() + PATIENCE
-                while replies_of(room) < least:
-                    assert time.monotonic() < end, f"not after {PATIENCE} seconds: {least} replies"
-                    time.sleep(0.001)
-            try:
-                yield tell
-                said = run.communicate(timeout=PATIENCE)[1]
-                assert (run.returncode, said, (room.path / "replies").read_text()) == (0, "", replies)
-            finally:
-                run.kill()
+KILLS = 50
 
 
 def test_a_second_program_ends_with_disk_busy_and_the_first_goes_on(room: Room) -> None:
     room.ends("format --disk kinds/d")
     (room.path / "link").symlink_to("kinds/d")
-    with running(room, "kinds/d", stored(1, 3)) as tell:
-        tell(returns(1, 1, 1), 1)
-        with room.untouched("kinds/d"):
-            for task, path in (("run", "kinds/d"), ("run", "link"), ("format", "kinds/d"), ("status", "kinds/d"), ("seats", "kinds/d")):
-                room.ends([task, "--disk", path], 1, f"disk busy\n{path}", lines=returns(1, 2, 2))
-        # What needs no disk, or a copy, is answered.
-        shutil.copy(room.path / "kinds/d", room.path / "copy")
-        assert room.run("status --disk copy").status == 0
-        room.ends("list --of groups", out="number,name\n1,A\n2,B\n3,C\n")
-        tell(returns(1, 2, 3), 3)
+    first = room.begun("kinds/d", returns(1, 1, 1))
+    until("the first answers", lambda: first.out)
+    with room.untouched("kinds/d"):
+        for task, path in (("run", "kinds/d"), ("run", "link"), ("format", "kinds/d"), ("status", "kinds/d"), ("seats", "kinds/d")):
+            room.ends([task, "--disk", path], 1, f"disk busy\n{path}", lines=returns(1, 2, 2))
+    assert (first.end(returns(1, 2, 3)), first.out, first.error) == (0, stored(1, 3).splitlines(), [])
     room.serves("kinds/d", "1 show 1 1\n", shows(3))
     assert room.names() == ["d"]
 
 
 def test_two_programs_at_once(disk: Room) -> None:
     """Twenty returns each, twenty times, and until they have met: a program serves all of them, or is refused and stores none."""
-    held, met, rounds = [0, 0], 0, 0
-    while rounds < 20 or not met and rounds < 500:
-        rounds += 1
+    held, met = [0, 0], 0
+    for rounds in range(500):
+        if rounds >= 20 and met:
+            break
         runs = []
         for place in (0, 1):
-            (disk.path / f"lines.{place}").write_text(returns(place + 1, held[place] + 1, held[place] + 20))
-            with open(disk.path / f"lines.{place}") as lines:
-                runs.append(subprocess.Popen(disk.words("run --disk d"), cwd=disk.path, stdin=lines, stdout=subprocess.PIPE,
-                                             stderr=subprocess.PIPE, text=True))
+            runs.append(disk.begun("d", returns(place + 1, held[place] + 1, held[place] + 20)))
+            runs[place].process.stdin.close()
             time.sleep(0 if place else disk.chance.uniform(0, 0.004))
         for place, run in enumerate(runs):
-            out, said = run.communicate(timeout=PATIENCE)
-            if run.returncode == 0:
-                assert out.count("1 stored ") == out.count("\n") == 20
-                held[place] += 20
-            else:
-                assert (run.returncode, out, said) == (1, "", "zhcount: disk busy\nd\n")
-                met += 1
+            status = run.wait()
+            assert (status, len(run.out), run.said()) in ((0, 20, ""), (1, 0, f"zhcount: disk busy\n{disk.path}/d"))
+            held[place] += len(run.out)
+            met += status
         disk.serves("d", "1 show 1 1\n1 show 2 1\n", shows(held[0]) + shows(held[1]))
     disk.serves("d", "1 return 3 1 1 5\n", f"1 stored {sum(held) + 1}\n")
     assert met, "no program met the other"
 
 
 def test_copies_while_run_has_the_disk(disk: Room) -> None:
-    """A copy has all that was answered before the copying began, and no more than what came before it ended; or it is refused.
-    The run goes through a journal of 1,024 pages and into the next. It gets 25 lines as each copy is made."""
-    copies, refused = {}, 0
-    with running(disk, "d", stored(1, 1500)) as tell:
-        for first in range(1, 1500, 25):
-            tell(returns(1, first, first + 24), first + disk.chance.randrange(20))
-            before, name = replies_of(disk), f"copy.{first}"
-            shutil.copy(disk.path / "d", disk.path / name)
-            copies[name] = before, replies_of(disk) + 1
-    for name, (least, most) in copies.items():
-        ran = disk.run(["run", "--disk", name], lines="1 show 1 1\n")
+    """A copy has all that was answered before the copying began, or is refused. The run goes through a journal of 1,024 pages and into the
+    next. It gets 25 lines as each copy is made."""
+    run, least, refused = disk.begun("d", ""), {}, 0
+    for first in range(1, 1500, 25):
+        run.write(returns(1, first, first + 24))
+        time.sleep(disk.chance.uniform(0, 0.002))
+        least[first] = len(run.out)
+        shutil.copy(disk.path / "d", disk.path / f"copy.{first}")
+    assert (run.end(), run.out, run.error) == (0, stored(1, 1500).splitlines(), [])
+    for first, answered in least.items():
+        ran = disk.run(f"run --disk copy.{first}", lines="1 show 1 1\n")
         if ran.status:
-            assert ran == (1, "", f"zhcount: disk damaged\n{name}\n")
+            assert ran == (1, "", f"zhcount: disk damaged\ncopy.{first}\n")
             refused += 1
         else:
-            number = int(ran.out.split()[2])
-            assert ran.out == shows(number) and least <= number <= most, name
-    assert 2 * refused < len(copies), f"{refused} of {len(copies)} copies were refused"
+            assert ran.out in map(shows, range(answered, first + 25)), f"{answered} were answered"
+    assert 2 * refused < len(least), f"{refused} of {len(least)} copies were refused"
+
+
+def spaced(first: int, last: int) -> str:
+    """Returns with these replacement numbers, and some lines between them that make no call of the disk: they give the kill time where a
+    sync costs nothing."""
+    return "".join(returns(1, number, number) + 5 * "1 show 3 3\n" for number in range(first, last + 1))
+
+
+@pytest.mark.long
+def test_kills(disk: Room) -> None:
+    """After each kill the returns are held that were answered, and at most one more."""
+    begun = time.monotonic()
+    disk.run("run --disk d", lines=spaced(1, 300))
+    span, held, between = min(time.monotonic() - begun, 0.1), 1000, 0
+    for kill in range(KILLS):
+        if held >= 500:
+            (disk.path / "d").unlink()
+            disk.ends("format --disk d")
+            held = 0
+        run = disk.begun("d", spaced(held + 1, held + 500))
+        if kill % 2:
+            until("the first answer", lambda: run.out)
+        time.sleep(disk.chance.uniform(0, span))
+        run.kill()
+        run.wait()
+        answered = held + sum("stored" in it for it in run.out)
+        assert [it for it in run.out if it != "1 none"] == stored(held + 1, answered).splitlines(), f"kill {kill}, seed {SEED}"
+        assert run.error == [], f"kill {kill}, seed {SEED}"
+        between += held < answered < held + 500
+        shown = disk.ends("run --disk d", out=None, lines="1 show 1 1\n")
+        assert shown in (shows(answered), shows(answered + 1)), f"kill {kill}, seed {SEED}"
+        held = answered + (shown != shows(answered))
+    assert between >= KILLS / 10, f"only {between} kills were between two answers, within {span} s"
