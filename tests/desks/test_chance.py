@@ -1,4 +1,4 @@
-"""Eight desks with random lines, while office, run or witness is killed at any moment: each line has one answer, the one of the manual; what
+"""Eight desks with random lines, while office, run or witness is killed at any moment: each line has one answer, that of the manual; what
 was shown is in the log, at the witness and on the disk, and nothing is stored twice. KILLS takes another number of kills, SEED another
 night."""
 import contextlib
