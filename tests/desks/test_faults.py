@@ -15,21 +15,17 @@ from processes import Process, until
 FIRST, SECOND = "return 1 1 1 525", "return 1 2 1 300"
 
 
-def from_a_start_on(change):
-    def changes(room):
+def answers(edit):
+    def change(room):
         room.stop()
-        change(room)
+        room.edits_answers(edit)
         room.start()
-    return changes
+    return change
 
 
 def full_log(room):
     size = (room.folder / "night.db-wal").stat().st_size
     resource.prlimit(room.office.process.pid, resource.RLIMIT_FSIZE, (size + 30, resource.RLIM_INFINITY))
-
-
-def answers(edit):
-    return from_a_start_on(lambda room: room.edits_answers(edit))
 
 
 ANOTHER = "night.disk is no longer the file"
@@ -40,8 +36,7 @@ FAULTS = {
     "cut short": (lambda room: os.truncate(room.disk, 600_000), ANOTHER),
     "made longer": (lambda room: os.truncate(room.disk, 2_000_000), ANOTHER),
     "folder put aside": (lambda room: room.folder.rename(room.path / "aside"), "night.db is no longer the file"),
-    "full": (from_a_start_on(lambda room: room.stands_in("[ $1 = run ] && { trap '' XFSZ; ulimit -f 1; }")),
-             "the disk has failed: refused device. Copy it before anything else"),
+    "full": (answers("s/stored 4/refused device/"), "the disk has failed: refused device. Copy it before anything else"),
     "reopen-disk": (answers("s/stored 4/refused reopen-disk/"), "the disk has failed: refused reopen-disk"),
     "a sheet without its end": (answers("/^constituency 2/Q"), "zhcount run has ended"),
     "of another desk": (answers("s/^1 stored 4/2 stored 4/"), "zhcount answered desk 1 by '2 stored 4'"),
@@ -54,9 +49,8 @@ FAULTS = {
 
 @pytest.mark.parametrize("name", FAULTS)
 def test_fault(new_room, name):
-    """a disk that is replaced, is removed, has a second name or another length or takes nothing more, a folder that is put aside, and a
-    false answer stop the office before it shows or notes anything, also at the end; the next start that is right answers the line. A line
-    for which the log has no room is not given to the program"""
+    """a disk or a folder that is not the one of the start, and a false answer, stop the office before it shows or notes anything, also at
+    the end; the next start that is right answers the line. A line for which the log has no room is not given to the program"""
     (change, text), is_end, line = FAULTS[name], "at the end" in name, "sheet" if "sheet" in name else SECOND
     room = new_room
     room.folder = room.path / os.fsdecode(b"\xff\xfe")  # a path need not be UTF-8, and can be in a message
@@ -108,21 +102,16 @@ def test_checkpoints(room):
     (lambda room: room.script("zhcount-office", "--replay", room.folder), "waiting for the end of zhcount-office --replay, process {} of "),
 ], ids=["disk", "folder"])
 def test_start_waits(room, words, text):
-    """a start waits for a program that has the disk, or a replay that has the folder, and names it; it goes on by itself, or ends at a
-    signal"""
+    """a start waits for what has the disk or the folder, and names it; it goes on by itself, or ends at a signal"""
     room.stop()
-    flag = room.path / "flag"
-    flag.touch()
-    room.stands_in(f"[ $1 = format ] && while [ -e '{flag}' ]; do sleep 0.02; done")
+    room.stands_in("[ $1 = format ] && while kill -0 $PPID 2> /dev/null; do sleep 0.02; done")  # so that a replay lasts
     holder = room.process(Process, words(room))
     holder.write(f"1 {FIRST}\n")
     until("it is at work", lambda: holder.out or room.children_of(holder))
-    room.environment["ZHCOUNT"] = str(PROGRAM)
     room.start(is_awaited=False).says(text.format(holder.process.pid))
     assert room.stop() == 0, "told to end"
     room.start(is_awaited=False).says(text.format(holder.process.pid))
-    flag.unlink()
-    assert holder.end() == 0, f"the other: {holder.said()}"
+    holder.kill()
     room.await_start()
     room.office.says("start 2,")
 
@@ -162,13 +151,11 @@ REFUSED = {
     "a return is missing": disk(FIRST, "return 3 2 1 300", "close 2", "return 3 3 1 5"),
     "a return is another": disk("return 1 1 1 520", SECOND, "close 2", "return 3 3 1 5"),
     "no disk": (lambda room: room.disk.unlink(), "zhcount: disk device"),
-    "a disk that fails": (lambda room: room.edits_answers("s/held 1/refused device/"),
-                          "the disk has failed: refused device. Copy it before anything else"),
+    "a disk that fails": (lambda room: room.edits_answers("s/held 1/refused device/"), "the disk has failed: refused device. Copy it"),
     "another set-up": (lambda room: room.setup.write_text(room.setup.read_text() + "# other\n"),
                        "{0.setup} is not the set-up of this log: give the right one, or another folder and a new disk"),
     "no set-up": (lambda room: room.setup.unlink(), "No such file or directory"),
-    "no program": (lambda room: room.environment.update(ZHCOUNT=f"{room.path}/none"),
-                   "{0.path}/none can't be started: No such file or directory"),
+    "no program": (lambda room: room.environment.update(ZHCOUNT="/none"), "/none can't be started: No such file or directory"),
     "other sums": (program("status", r"echo a text; echo no sums >&2"), "night.disk can't be read"),
     "bytes of status": (program("status", r"printf '\xff\n'"), "night.disk can't be read"),
     "other rows": (program("export", r"printf 'a text\nmore\n'"), "night.disk can't be read"),
@@ -177,8 +164,7 @@ REFUSED = {
     "no log": (no_log, "night.db could not be written or read: file is not a database"),
     "another program's log": (log("PRAGMA application_id = 1"), "of another program or version: application_id 1, user_version 1"),
     "another version's log": (log("PRAGMA user_version = 2"), "of another program or version: application_id 2053661550, user_version 2"),
-    "a line was changed": (log(f"UPDATE event SET text = 'return 1 1 1 526' WHERE text = '{FIRST}'"),
-                           "event 3 does not follow the one before it"),
+    "a line was changed": (log("UPDATE event SET text = 'close 1' WHERE number = 3"), "event 3 does not follow the one before it"),
     "a time was changed": (log("UPDATE event SET at = at || '0' WHERE number = 4"), "event 4 does not follow the one before it"),
     "an event was removed": (log("DELETE FROM event WHERE number = 4"), "event 5 does not follow the one before it"),
     "half of a log": (lambda room: (room.folder / "night.db").unlink(), "{0.folder} has no night.db"),
@@ -192,23 +178,20 @@ REFUSED = {
 
 
 @pytest.mark.parametrize("name", REFUSED)
-def test_refused(room, name):
-    """a start with something that is not the log's, or with a false log, names it with status 3, and notes and makes nothing; once all is
+def test_refused(room, tmp_path, name):
+    """a start with something that is not the log's, or with a false log, says so with status 3, and notes and makes nothing; once all is
     right again nothing is lost. Without a program the status is 1, after which systemd tries again"""
     if name == "another user's" and os.geteuid() != 0:
         pytest.skip("only root can give a folder away, or start an office as another user")
     change, text = REFUSED[name]
     desk = room.stops_at(room.desk(1).talk(*BEFORE), LINE)
-    own, setup = shutil.copy(room.disk, room.path / "own.disk"), room.setup.read_text()
-    folder = shutil.copytree(room.folder, room.path / "own", ignore=shutil.ignore_patterns("desk"))
+    own = shutil.copytree(room.path, tmp_path / "own", ignore=shutil.ignore_patterns("desk"))
     change(room)
     found = room.events(), sorted(os.listdir(room.path))
     room.refuses(text.format(room), status=1 if name == "no program" else 3)
     assert (room.events(), sorted(os.listdir(room.path))) == found, "nothing is noted or made"
-    shutil.rmtree(room.folder)
-    folder.rename(room.folder)
-    os.replace(own, room.disk)
-    room.setup.write_text(setup)
+    shutil.rmtree(room.path)
+    shutil.copytree(own, room.path)
     room.environment["ZHCOUNT"] = str(PROGRAM)
     room.start()
     assert desk.answer() == "stored 4", "its answer"
@@ -235,22 +218,17 @@ def test_used_disk(new_room):
 
 
 def test_commands_by_hand_meanwhile(room):
-    """a start compares a copy of the disk from the time when `run` has it, with all that another program has stored by then. A load that
-    gets the disk as the office ends is not in what the end notes: the next start notes it, and a rebuild goes"""
-    flag, held, table = (room.path / it for it in ("flag", "held", "beside.csv"))
-    files = f"--setup '{room.setup}' --disk '{room.disk}'"
-    table.write_text("municipality,list,number,votes\n3,1,1,90\n")
+    """a command that comes by hand just before the office has the disk is in what the start compares. One that comes as the office ends is
+    not in what the end notes: the next start notes it, and a rebuild goes"""
+    by_hand = f"printf '1 {{}}\\n' | '{PROGRAM}' run --setup '{room.setup}' --disk '{room.disk}' > /dev/null 2>&1"
     assert room.ask(1, FIRST).out == ["stored 1"]
-    # The load tries again and again, and so has the disk as soon as the office lets go of it.
-    loader = room.process(Process, ["bash", "-c", f"until '{PROGRAM}' load {files} --csv '{table}' 2> /dev/null; do :; done"])
+    # One that tries again and again has the disk as soon as the office lets go of it.
+    other = room.process(Process, ["bash", "-c", f"until {by_hand.format('return 3 1 1 90')}; do :; done"])
     assert room.stop() == 0, "the end"
-    assert loader.wait() == 0, "the load"
+    assert other.wait() == 0, "the other"
     assert room.events()[-1].facts()["commands"] == 1, "what the end has noted"
-    # Just before the office's run opens the disk, one by hand stores a command.
-    by_hand = f"printf '1 {SECOND}\\n' | '{PROGRAM}' run {files} > '{held}'"
-    room.stands_in(f"if [ $1 = run ] && mkdir '{flag}' 2> /dev/null; then {by_hand}; fi")
+    room.stands_in(f"if [ $1 = run ] && mkdir '{room.path}/flag' 2> /dev/null; then {by_hand.format(SECOND)}; fi")
     room.start().says("2 commands came in by hand before this start")
-    assert held.read_text() == "1 stored 3\n", "it was stored"
     assert room.ask(1, "return 1 3 1 120").out == ["stored 4"]
     room.stop()
     assert room.rebuilt() == room.zhcount("export"), "the export is that of the disk made anew"

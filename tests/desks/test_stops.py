@@ -30,7 +30,6 @@ FAULTS = {**dict.fromkeys(("write", "open", "make"), errno.ENOSPC),
 NIGHT = [(1, "open", "held 0"), (1, "row 1 1 1 300", "held 1"), (2, "return 2 1 1 240", "stored 1"), (2, "return 3 1 1 90", "stored 2"),
          (1, "commit", "stored 3"), (2, "sheet", "sheet provisional 3"), (1, "close 1", "stored 4")]
 EVENING = 3
-TRIES = 20  # of an end
 
 
 class Night:
@@ -94,12 +93,12 @@ class Night:
 
     def end_office(self):
         """Sends the office a signal once it serves, again if it is stopped on the way."""
-        for _ in range(TRIES):
-            until(lambda: f"an office: {self.room.office.said()}", lambda: self.look_after_office() or self.room.serves())
-            self.is_ending = True
-            if not self.room.stop():
-                break
+        def ends():
             self.look_after_office()
+            self.is_ending = self.room.serves()
+            return self.is_ending and self.room.stop() == 0
+
+        until(lambda: f"the office ends: {self.room.office.said()}", ends)
         assert "every line is answered" in self.room.office.said(), f"every line is answered: {self.room.office.said()}"
 
 

@@ -3,7 +3,6 @@ office, after which all or nothing of the table is in and the same command finis
 import importlib
 import os
 import pathlib
-import re
 import signal
 
 import pytest
@@ -44,12 +43,10 @@ def is_in(room, table, answer):
     assert (desk.wait(), desk.out) == (0, [answer]), f"it is in: {desk.said()}"
 
 
-def is_refused(room, table, *texts, out=()):
+def is_refused(room, table, text, out=()):
     desk = started(room, table)
     assert (desk.wait(), desk.out) == (1, [*out]), f"it is refused: {desk.said()}"
-    for it in texts:
-        assert f"zhcount-desk: {it}" in desk.error, f"'{it}' is said: {desk.said()}"
-    return desk
+    assert f"zhcount-desk: {text}" in desk.error, f"'{text}' is said: {desk.said()}"
 
 
 # What is taken
@@ -84,45 +81,42 @@ def test_largest():
 # What is refused before anything is sent
 
 
-@pytest.mark.parametrize("table, faults", [
-    (NAMES + "1,1,1,1'570\n1,2,1,1.570\n\n3,1,1,\"1,570\"\n3,2,1,1 570 000\n",
-     ["line 2: votes is \"1'570\": write 1570, without a separator", "line 3: votes is '1.570': write 1570, without a separator",
-      "line 5: votes is '1,570': write 1570, without a separator", "line 6: votes is '1 570 000': write 1570000, without a separator"]),
-    ("Gemeinde;Liste;Fassung;Stimmen\r\n1;1;1;1’570\r\n".encode("cp1252"), ["line 2: Stimmen is '1’570': write 1570, without a separator"]),
-    (NAMES + "1,1,1,\n1,2,1, \n3,,1,5\n,,,\n",
-     [f"line {line}: {column} is blank: fill it in, or delete the row"
-      for line, column in ((2, "votes"), (3, "votes"), (4, "list"), (5, "municipality"))]),
-    (NAMES + "1,1,1,12x\n1,2,1,-5\n3,1,1,05\n3,2,1,5 \n3,3,1,withdrawn\n2,1,1,\u0663\n2,2,1,1.5\n2,3,1,12345678901\n",
-     [f"line {line}: votes is '{text}', which is no whole number"
-      for line, text in enumerate(("12x", "-5", "05", "5 ", "withdrawn", "\u0663", "1.5", "12345678901"), 2)]),
-    (NAMES + "1,1,1,5\n1,2,1,6\n1,1,2,7\n", ["line 4: municipality 1, list 1 is in line 2 already"]),
-    (NAMES + "1,1,1\n1,2,1,6,\n", ["line 2: the row has 3 cells instead of 4", "line 3: the row has 5 cells instead of 4"]),
-    ("Gemeinde;Liste;Wähler;Stimmen\n1;1;1;5\n".encode("cp1252"),
-     ["line 1: the column number is missing", "line 1: the column 'Wähler' is unknown, or there twice: delete it"]),
-    ("municipality,list,number,votes,\n1,1,1,5,\n", ["line 1: the column '' is unknown, or there twice: delete it"]),
-    ("municipality,list,number,votes,Stimmen\n1,1,1,5,6\n", ["line 1: the column 'Stimmen' is unknown, or there twice: delete it"]),
-    ("", ["line 1: the column municipality is missing"]),
-    (NAMES, ["line 1: the table has 0 rows up to here; 1 to 1000 are allowed"]),
-    (NAMES + "1,1,1,525\n1,2,1,30", ["line 3: the end of this line is missing: if the table is complete, press Enter at its end"]),
-    (NAMES + '1,1,1,525\n"1,2,1,30\n', ["line 3: this is no CSV: unexpected end of data"]),
-    (TABLE + "\n" * (1 << 20), ["line 1048520: the table has 3 rows up to here; 1 to 1000 are allowed"]),
-    (TABLE.encode("utf-16"), ["line 1: the column municipality is missing"]),
-], ids=["separators", "a separator of Excel", "blank", "no number", "twice", "cells", "columns", "no title", "two titles", "nothing",
-        "no rows", "no end", "no CSV", "long", "UTF-16"])
-def test_faults(new_room, table, faults):
-    """a table with faults is not sent: the desk names each fault with its line, and looks for no office"""
+SEPARATED = "line {}: {} is {!r}: write {}, without a separator"
+NO_NUMBER = "line {}: votes is {!r}, which is no whole number"
+NO_END = "line {}: the end of this line is missing: if the table is complete, press Enter at its end"
+UNKNOWN = "line 1: the column {!r} is unknown, or there twice: delete it"
+FAULTS = {
+    "separators": (NAMES + "1,1,1,1'570\n1,2,1,1.570\n\n3,1,1,\"1,570\"\n3,2,1,1 570 000\n", [SEPARATED.format(*it) for it in (
+        (2, "votes", "1'570", 1570), (3, "votes", "1.570", 1570), (5, "votes", "1,570", 1570), (6, "votes", "1 570 000", 1570000))]),
+    "a separator of Excel": ("Gemeinde;Liste;Fassung;Stimmen\r\n1;1;1;1’570\r\n".encode("cp1252"),
+                             [SEPARATED.format(2, "Stimmen", "1’570", 1570)]),
+    "blank": (NAMES + "1,1,1,\n1,2,1, \n3,,1,5\n,,,\n", [f"line {it} is blank: fill it in, or delete the row" for it in (
+        "2: votes", "3: votes", "4: list", "5: municipality")]),
+    "no number": (NAMES + "1,1,1,12x\n1,2,1,-5\n3,1,1,05\n3,2,1,5 \n3,3,1,withdrawn\n2,1,1,\u0663\n2,2,1,1.5\n2,3,1,12345678901\n",
+                  [NO_NUMBER.format(*it) for it in enumerate(("12x", "-5", "05", "5 ", "withdrawn", "\u0663", "1.5", "12345678901"), 2)]),
+    "many": (NAMES + "1,1,1,x\n" * 30, [NO_NUMBER.format(line, "x") for line in range(2, 32)]),
+    "twice": (NAMES + "1,1,1,5\n1,2,1,6\n1,1,2,7\n", ["line 4: municipality 1, list 1 is in line 2 already"]),
+    "cells": (NAMES + "1,1,1\n1,2,1,6,\n", ["line 2: the row has 3 cells instead of 4", "line 3: the row has 5 cells instead of 4"]),
+    "columns": ("Gemeinde;Liste;Wähler;Stimmen\n1;1;1;5\n".encode("cp1252"),
+                ["line 1: the column number is missing", UNKNOWN.format("Wähler")]),
+    "no title": ("municipality,list,number,votes,\n1,1,1,5,\n", [UNKNOWN.format("")]),
+    "two titles": ("municipality,list,number,votes,Stimmen\n1,1,1,5,6\n", [UNKNOWN.format("votes"), UNKNOWN.format("Stimmen")]),
+    "nothing": ("", [*(f"line 1: the column {it} is missing" for it in NAMES.strip().split(",")), NO_END.format(1)]),
+    "no rows": (NAMES, ["line 1: the table has 0 rows up to here; 1 to 1000 are allowed"]),
+    "no end": (NAMES + "1,1,1,525\n1,2,1,30", [NO_END.format(3)]),
+    "no CSV": (NAMES + '1,1,1,525\n"1,2,1,30\n', ["line 3: this is no CSV: unexpected end of data"]),
+    "long": (TABLE + "\n" * (1 << 20), ["line 1048520: the table has 3 rows up to here; 1 to 1000 are allowed"]),
+}
+
+
+@pytest.mark.parametrize("name", FAULTS)
+def test_faults(new_room, name):
+    """a table with faults is not sent: the desk names the first twenty, each with its line, and looks for no office"""
     new_room.folder = pathlib.Path(os.devnull)  # a desk that looked for one would say that it can't
-    desk = is_refused(new_room, table, *faults)
-    assert re.search(r"desk 3: faults in the table: \d+; nothing was sent$", desk.error[-1]), f"nothing else is: {desk.said()}"
-    if len(faults) > 1:
-        assert len(desk.error) - 1 == len(faults), f"the faults: {desk.said()}"
-
-
-def test_many_faults(new_room):
-    """of many faults the first twenty are named, and their number"""
-    faults = [f"line {line}: votes is 'x', which is no whole number" for line in range(2, 22)]
-    desk = is_refused(new_room, NAMES + "1,1,1,x\n" * 30, *faults, "desk 3: faults in the table: 30; nothing was sent")
-    assert len(desk.error) == 21, "what is said"
+    table, faults = FAULTS[name]
+    desk, last = started(new_room, table), f"desk 3: faults in the table: {len(faults)}; nothing was sent"
+    assert desk.wait() == 1, "the end"
+    assert desk.error == [f"zhcount-desk: {it}" for it in (*faults[:20], last)], f"what is said: {desk.said()}"
 
 
 # What the office refuses
