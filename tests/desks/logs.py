@@ -1,12 +1,12 @@
 """The log of a folder, FOLDER/night.db, read and written here by desks/FOLDER.md, without the scripts: what was sent and answered, and logs
 as offices leave them, event by event."""
+import collections
 import contextlib
 import hashlib
 import json
 import pathlib
 import sqlite3
 import tempfile
-from typing import Dict, List, NamedTuple
 
 from places import TOP
 
@@ -15,27 +15,25 @@ SCHEMA = (TOP / "desks/FOLDER.md").read_text().partition("```sql\n")[2].partitio
 TIME = "2026-11-29T18:00:00.000+01:00"
 
 
-class Event(NamedTuple):
-    number: int
-    at: str
-    kind: str
-    desk: int
-    turn: int
-    text: str
-    sum: str = ""
-
-    def sum_after(self, before: str) -> str:
+class Event(collections.namedtuple("Event", "number at kind desk turn text sum", defaults=[""])):
+    def sum_after(self, before):
         return hashlib.sha256(f"{before}{json.dumps(self[:6])}".encode()).hexdigest()
 
-    def facts(self) -> Dict:
+    def facts(self):
         return json.loads(self.text)
 
 
-def events(folder) -> List[Event]:
+def bytes_of(path):
+    with contextlib.suppress(FileNotFoundError):
+        return pathlib.Path(path).read_bytes()
+    return b""
+
+
+def events(folder, read=bytes_of):
     """All events of a folder. An office keeps its log locked, so this reads a copy of it and of its -wal, both as they were at one time."""
-    path = pathlib.Path(folder, "night.db")
+    path = f"{folder}/night.db"
     for _ in range(1000):
-        before, data, after = bytes_of(f"{path}-wal"), bytes_of(path), bytes_of(f"{path}-wal")
+        before, data, after = read(f"{path}-wal"), read(path), read(f"{path}-wal")
         if after == before or before and after.startswith(before):
             break
     with tempfile.TemporaryDirectory(prefix="log-") as room, contextlib.suppress(sqlite3.DatabaseError):  # it has no table yet
@@ -47,13 +45,7 @@ def events(folder) -> List[Event]:
     return []
 
 
-def bytes_of(path) -> bytes:
-    with contextlib.suppress(FileNotFoundError):
-        return pathlib.Path(path).read_bytes()
-    return b""
-
-
-def check_chain(folder) -> None:
+def check_chain(folder):
     """Each event has its number, and the sum that follows from the events before it."""
     before = ""
     for number, it in enumerate(events(folder), 1):
@@ -67,12 +59,12 @@ class Written:
     def __init__(self, folder, found=()):
         self.folder, self.events = pathlib.Path(folder), [*found]
 
-    def add(self, kind: str, text: str, desk=0, turn=0) -> Event:
+    def add(self, kind, text, desk=0, turn=0):
         event = Event(len(self.events) + 1, TIME, kind, desk, turn, text)
         self.events.append(event._replace(sum=event.sum_after(self.events[-1].sum if self.events else "")))
         return self.events[-1]
 
-    def edited(self, kind: str, within: str, old: str, new: str) -> "Written":
+    def edited(self, kind, within, old, new):
         """A log in which the events of this kind with a certain text within theirs have another one, and the sums follow."""
         other = Written(self.folder)
         for it in self.events:
@@ -80,7 +72,7 @@ class Written:
         assert [it.text for it in other.events] != [it.text for it in self.events], f"{old} is in an event {kind}"
         return other
 
-    def put(self) -> None:
+    def put(self):
         """Makes the file, in place of the one that is there."""
         self.folder.mkdir(exist_ok=True)
         self.folder.chmod(0o2750)

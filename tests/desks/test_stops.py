@@ -1,23 +1,20 @@
 """Two desks' night, in which office, desk or witness is stopped (kill -9) at its calls that open, make, change, sync or rename a file, or
 that send something; the same after a power cut before these calls, and with one of them that fails. Each time the office is started again,
-and the night goes on to its end: what the desks were shown, the log, a replay and the export have to agree.
-
-`make test` takes of each kind of call the first and the last: at a start, among lines, at an end. `slow` takes all."""
+and the night goes on to its end: what the desks were shown, the log, a replay and the export have to agree. `make test` takes the first and
+the last call of each kind: at a start, among lines, at an end. `slow` takes all."""
 import concurrent.futures
 import errno
 import os
-import pathlib
 import random
 import re
 import signal
 import subprocess
-import tempfile
 
 import pytest
 
 from logs import events
 from processes import HAS_ENDED
-from room import Room, until
+from room import until
 from watch import ApartRoom, Device, Stop, WatchedRoom, restore
 
 # Each has more processes than there are processors, so they come one after the other.
@@ -120,9 +117,9 @@ def each(kinds, is_all, job):
 
 
 class StopOf(Stop):
-    """A night with a stop of the office, of a desk, or of the witness, before a call; of writes to a file that come one after the other,
-    the first. With the number 0 nothing is stopped. `kinds` has of each call what it is, and `unsynced` what office or witness told
-    somebody of an event that was not on their device, or not answered."""
+    """A night with a stop of the office, of a desk, or of the witness, before a call; with the number 0 nothing is stopped. Writes to a file
+    that follow each other count once. `kinds` has what each call is, `unsynced` what office or witness sent of an event that was not on
+    their device, or that had no answer."""
 
     may_end = {-signal.SIGKILL}
 
@@ -142,20 +139,14 @@ class StopOf(Stop):
     def before(self, call):
         folder = {"office": self.room.folder, "witness": self.room.copy}.get(call.who)
         if folder and call.name == "send" and self.room.is_of(call.who, call):
-            self.look_at(folder, call)
+            synced, there = events(folder, self.device.synced), events(folder)
+            kinds = [it.kind for it in there]
+            if synced != there or call.path == "socket" and kinds.count("line") != kinds.count("answer"):
+                self.unsynced.append(f"{call}: {there[len(synced):]}")
         fault = super().before(call)
         if call.name == "sync" and call is not self.call:
             self.device.sync(call.path)
         return fault
-
-    def look_at(self, folder, call):
-        with tempfile.TemporaryDirectory(prefix="log-", dir=Room.shared()) as place:
-            for it in ("night.db", "night.db-wal"):
-                pathlib.Path(place, it).write_bytes(self.device.synced(str(folder / it)))
-            synced, there = events(place), events(folder)
-        kinds = [it.kind for it in there]
-        if synced != there or call.path == "socket" and kinds.count("line") != kinds.count("answer"):
-            self.unsynced.append(f"{call}: {there[len(synced):]}")
 
     def run(self):
         with WatchedRoom(self.before) as room:
@@ -177,8 +168,7 @@ class StopOf(Stop):
 @ALL
 @pytest.mark.parametrize("who, least", [("office", 80), ("desk 1", 5), ("witness", 20)])
 def test_stopped(who, least, is_all):
-    """kill -9 of the office, of a desk or of the witness, at its calls. Office and witness send nothing of an event that is not on their
-    device, also if a process died before it had synced it"""
+    """kill -9 of the office, of a desk or of the witness; office and witness send nothing of an event that is not on their device"""
     StopOf.each(who, is_all, least)
 
 
@@ -186,18 +176,14 @@ class FaultOf(StopOf):
     """A night in which a call of the office fails. If that writes or syncs a log with events, the office writes nothing more to it and ends
     with 3."""
 
-    may_end = {1, 3}
-
-    def __init__(self, *more):
-        super().__init__(*more)
-        self.later, self.is_of_events = [], False
+    may_end, is_of_events, later = {1, 3}, False, ()
 
     def counts(self, call):
         return call.name in FAULTS and super().counts(call)
 
     def before(self, call):
         if self.call and call.pid == self.call.pid and is_of_log(self.call) and is_of_log(call):
-            self.later.append(call)
+            self.later += (call,)
         return super().before(call)
 
     def now(self, call):
@@ -207,7 +193,7 @@ class FaultOf(StopOf):
     def run(self):
         super().run()
         if self.is_of_events:
-            assert self.later == [], f"what is written after {self.call} has failed"
+            assert self.later == (), f"what is written after {self.call} has failed"
             assert 3 in self.night.ended, f"the office has ended with 3 after {self.call}"
         return self
 
