@@ -1,5 +1,4 @@
-"""The log of a folder, FOLDER/night.db, read and written here by desks/FOLDER.md, without the scripts: what was sent and answered, and logs
-as offices leave them, event by event."""
+"""The log of a folder, FOLDER/night.db, read and written here by desks/FOLDER.md, without the scripts."""
 import collections
 import contextlib
 import hashlib

@@ -13,8 +13,7 @@ class Night(Room):
         self.log, self.new = Written(self.folder), self.path / "new.disk"
 
     def begin(self, lines, is_stored=None):
-        """A start with these lines, 'N LINE' each, and a clean end; or a stop before the last line is answered, which the disk then has, or
-        not."""
+        """A start with these lines, 'N LINE' each, and a clean end; or a stop before the last answer, with that line on the disk or not."""
         self.start()
         desks = {number: self.desk(number) for number in {int(it[0]) for it in lines}}
         for it in lines if is_stored is None else lines[:-1]:

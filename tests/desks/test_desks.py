@@ -23,8 +23,7 @@ def test_torn_line(room):
 
 
 def test_for_itself(room):
-    """a desk speaks for itself alone, whatever is typed. Of a line with more than 120 bytes it sends the first 121, and says so; the log
-    grows no further, whatever the bytes are"""
+    """a desk speaks for itself alone, whatever is typed; of a line with more than 120 bytes it sends 121, and says so"""
     lines = ["4 return 1 1 1 525", "4 show 1 1", "", " show 1 1", "show\t1 1", "sh\\ow", "é", "\\x0a4 close 1", "{}", "x" * 120, "\0" * 120,
              "y" * 121, "z" * 9000, "\0" * 9001]
     noted = [*lines[:4], "show\\x091 1", "sh\\x5cow", "\\xc3\\xa9", "\\x5cx0a4 close 1", "{}", "x" * 120, "\\x00" * 120,
@@ -50,8 +49,7 @@ def test_endless_line(room):
 
 
 def test_sheet(room):
-    """a sheet is shown whole, with its desk, also to a desk that the office answers after a stop; a new connection is shown its first line.
-    No file that the group may open is locked"""
+    """a sheet is shown whole, with its desk, also after a stop; a new connection shows its first line. The group can lock no file of it"""
     lines = ["return 1 1 1 525", "return 2 1 1 240", "return 3 1 1 90"]
     room.ask(1, *lines)
     wanted = room.zhcount("run", disk=room.other_disk(*lines), given="3 sheet\n")
@@ -82,8 +80,7 @@ def test_run_is_killed(room):
 
 
 def test_waits_for_an_office(new_room):
-    """a desk waits for an office, for the answer of one that stands still, which it says once, and for one that comes again, also while the
-    folder is not there; it sends a line again that no office had taken"""
+    """a desk waits for an office, and for the answer of one that stands still or comes again; a line that was not taken is sent again"""
     room = new_room
     room.edit_script("zhcount-desk", r"^PATIENCE = 10", "PATIENCE = 1")
     desk = room.desk(1)

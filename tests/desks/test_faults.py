@@ -49,8 +49,7 @@ FAULTS = {
 
 @pytest.mark.parametrize("name", FAULTS)
 def test_fault(new_room, name):
-    """a disk or a folder that is not the one of the start, and a false answer, stop the office before it shows or notes anything, also at
-    the end; the next start that is right answers the line. A line for which the log has no room is not given to the program"""
+    """a disk, folder or answer that is not right stops the office before it shows or notes anything; the next right start has the line"""
     (change, text), is_end, line = FAULTS[name], "at the end" in name, "sheet" if "sheet" in name else SECOND
     room = new_room
     room.folder = room.path / os.fsdecode(b"\xff\xfe")  # a path need not be UTF-8, and can be in a message
@@ -179,8 +178,7 @@ REFUSED = {
 
 @pytest.mark.parametrize("name", REFUSED)
 def test_refused(room, tmp_path, name):
-    """a start with something that is not the log's, or with a false log, says so with status 3, and notes and makes nothing; once all is
-    right again nothing is lost. Without a program the status is 1, after which systemd tries again"""
+    """a start with something that is not the log's, or with a false log, says so, and notes and makes nothing; then nothing is lost"""
     if name == "another user's" and os.geteuid() != 0:
         pytest.skip("only root can give a folder away, or start an office as another user")
     change, text = REFUSED[name]
@@ -200,8 +198,7 @@ def test_refused(room, tmp_path, name):
 
 
 def test_used_disk(new_room):
-    """a new folder with a disk that has commands is refused, unless --take begins the log with that disk; which is refused in a folder with
-    a log"""
+    """a new folder refuses a disk that has commands, unless --take begins the log with it; --take refuses a folder that has a log"""
     room, words = new_room, ("--take", new_room.setup, new_room.disk, new_room.folder)
     room.by_hand(FIRST, "close 2")
     room.refuses(f"{room.disk} has 2 commands, but {room.folder} has no log of them: take a new disk, or, if it is meant, begin the log by "

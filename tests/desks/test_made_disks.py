@@ -1,5 +1,4 @@
-"""Tests of the disk that zhcount-office --rebuild makes: whole or not at all, over no other file, from a log that nobody else has, with the
-set-up of the log; and of what a rebuild leaves that is killed."""
+"""Tests of the disk that zhcount-office --rebuild makes: whole or not at all, over no other file, with the set-up of the log."""
 import itertools
 import os
 import shutil

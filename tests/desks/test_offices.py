@@ -25,8 +25,7 @@ def modes(folder):
 
 
 def test_what_is_noted(room):
-    """a start has the program's version and sum, and the commands and the export's sum of the disk; an end the reason, and those. After a
-    clean end night.db has all that was sent and answered, which sqlite3 shows, and nothing else is left"""
+    """a start notes program and disk, an end its reason and the disk; a clean end leaves night.db alone, with all lines and answers"""
     assert room.ask(1, FIRST, "sh\\ow").out == ["stored 1", "refused syntax"]
     room.stop()
     room.start()
@@ -104,8 +103,7 @@ def test_told_again_at_the_end(new_room):
 @pytest.mark.parametrize("before", ["umask 077", "umask 000", "trap '' HUP", "exec 2> /dev/full", "exec 2>&-", "exec <&- >&- 2>&-",
                                     "exec 2> {}"])
 def test_started_after(new_room, before):
-    """with any umask, with a signal ignored, in a folder that a stop left, and with streams that are closed, full or read by nobody: an
-    office serves, its files have the same modes, and none of them is a stream"""
+    """after any umask, with an ignored signal, and with streams closed, full or read by nobody: an office serves, with the same modes"""
     room = new_room
     room.folder.mkdir(mode=0o700)
     pipe = os.pipe2(os.O_NONBLOCK)
@@ -128,8 +126,7 @@ def test_started_after(new_room, before):
 
 
 def test_unit(tmp_path):
-    """systemd finds nothing wrong with the unit, and little that it could do beyond its task. The unit starts an office again however it
-    ended, unless a person has to look, and lets it have sockets of this machine alone"""
+    """systemd finds little that the unit could do beyond its task; it starts an office again, unless a person has to look first"""
     text = UNIT.read_text()
     for line in ("StartLimitIntervalSec=0", "RestartPreventExitStatus=2 3", "RestrictAddressFamilies=AF_UNIX"):
         assert line in text.splitlines(), line

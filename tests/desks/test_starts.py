@@ -26,8 +26,7 @@ CASES = [*((line, LOST, "", answer) for line, answer in LINES.items()),
 
 @pytest.mark.parametrize("line, fate, by_hand, answer", CASES, ids=["-".join(filter(None, it[:3])) for it in CASES])
 def test_line_without_an_answer(room, line, fate, by_hand, answer):
-    """the line that a stop left without an answer gets the one that it would have had, whether the run got it or not. Before that the log
-    notes with the whole disk what came by hand, which is not taken for the line's command. The disk made anew has all"""
+    """the line that a stop left without an answer gets the one that it would have had; what came by hand is noted first, with the disk"""
     desk = room.stops_at(room.desk(1).talk(*BEFORE), line, fate == STORED)
     if "," in by_hand:
         room.load(by_hand)
@@ -52,8 +51,7 @@ def test_line_without_an_answer(room, line, fate, by_hand, answer):
 
 @pytest.mark.parametrize("is_stored", [True, False], ids=["outlived", "lost"])
 def test_told_what_became_of_it(room, is_stored):
-    """the line is answered before any desk is let in, and once, also if the office ends then; a new connection shows its answer, and what
-    another desk has done stays"""
+    """the line is answered once, before any desk is let in, also if the office ends then; a new connection shows the answer"""
     room.stops_at(room.desk(1).talk(*BEFORE), "close 1", is_stored).kill()
     desk, flag = room.desk(1), room.path / "flag"
     flag.touch()
@@ -75,8 +73,7 @@ def test_told_what_became_of_it(room, is_stored):
 
 
 def test_batches_are_given_again(room):
-    """a start gives the rows of open batches again, before any desk, without a record, also after a refused commit, and a new connection
-    says how many there are; rows of a committed or dropped batch are not given again"""
+    """rows of open batches are given again, before any desk, without a record, also after a refused commit; others are not"""
     room.ask(5, "open", "row 1 1 1 525", "row 1 2 1 300")
     room.ask(6, "open", "row 2 1 1 240", "commit")
     room.ask(7, "open", "row 2 2 1 330", "drop")

@@ -53,8 +53,7 @@ def is_refused(room, table, text, out=()):
 
 
 def test_forms(room):
-    """Excel's table (semicolons, a byte order mark, CR LF, quoted cells, German titles) is the same as one with commas, with another order
-    of the columns, a blank line or other line ends, and as one from standard input. A file that is missing is an error"""
+    """tables of Excel, with commas, in another order, with other line ends and from standard input are the same; a lost file is an error"""
     tables = [EXCEL, TABLE, TABLE.replace("\n", "\r\n"), "\ufeff" + TABLE, EXCEL[1:].replace("\r\n", "\r"),
               "votes;number;list;municipality\n525;1;1;1\n\n300;1;2;1\n90;1;1;3\n"]
     for number, table in enumerate(tables):
@@ -149,8 +148,7 @@ def test_refused_row(room):
     (["return 1 1 1 525"], NAMES + "1,1,2,526\n1,2,2,300\n", "3: row 1 2 2 300", "refused gap", "show 1 2: none"),
 ], ids=["conflict", "withdrawn", "stale", "closed", "gap"])
 def test_refused_commit(room, lines, table, line, refusal, shown):
-    """the desk finds the row for which a commit was refused by what is held, and names its line, also if nothing is held, if another row
-    has the next number, or if a stop has left its batch; then it drops the batch"""
+    """the desk finds the row for which a commit was refused, and names its line, also in a batch that a stop has left, which it drops"""
     room.ask(2, *lines)
     said, sent = f"desk 3: line {line}: {refusal} ({shown}); nothing was entered", [*lines_of(table), "drop"]
     is_refused(room, table, said, out=[refusal])
