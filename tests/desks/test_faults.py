@@ -83,16 +83,6 @@ def test_fault(new_room, name):
     room.check()
 
 
-def test_checkpoints(room):
-    """once the -wal is long the office brings it into night.db, between lines, and writes it from its beginning again"""
-    lines = [f"return 1 1 {number} {number}" for number in range(1, 301)]
-    assert room.ask(1, *lines).out[-1] == "stored 300", "the last answer"
-    assert (room.folder / "night.db-wal").stat().st_size < 1 << 19, "the -wal stays short"
-    assert (room.folder / "night.db").stat().st_size > 1 << 16, "night.db has it"
-    room.restart()
-    room.check({1: lines})
-
-
 # At a start
 
 
@@ -131,16 +121,8 @@ def program(task, does):
 
 
 def log(statement):
-    def change(room):
-        with sqlite3.connect(room.folder / "night.db") as db:
-            db.execute(statement)
-        db.close()
-    return change
-
-
-def no_log(room):
-    (room.folder / "night.db").write_bytes(b"something else" * 1000)
-    (room.folder / "night.db-wal").unlink()
+    """A log that somebody has changed."""
+    return lambda room: sqlite3.connect(room.folder / "night.db", isolation_level=None).execute(statement).connection.close()
 
 
 REFUSED = {
@@ -160,7 +142,7 @@ REFUSED = {
     "other rows": (program("export", r"printf 'a text\nmore\n'"), "night.disk can't be read"),
     "bytes of export": (program("export", r"printf '\xff\xfe\n'"), "night.disk can't be read"),
     "bytes of a reason": (program("status", r"printf 'zhcount: disk damaged \xff\n' >&2; exit 1"), "zhcount status"),
-    "no log": (no_log, "night.db could not be written or read: file is not a database"),
+    "no log": (lambda room: shutil.copyfile(room.setup, room.folder / "night.db"), "night.db could not be written or read: file is not a"),
     "another program's log": (log("PRAGMA application_id = 1"), "of another program or version: application_id 1, user_version 1"),
     "another version's log": (log("PRAGMA user_version = 2"), "of another program or version: application_id 2053661550, user_version 2"),
     "a line was changed": (log("UPDATE event SET text = 'close 1' WHERE number = 3"), "event 3 does not follow the one before it"),

@@ -36,7 +36,8 @@ def test_what_is_noted(room):
     found = room.events()
     kinds = ["setup", "start", *["line", "answer"] * 2, "ended", "start", "start", "ended"]
     assert [it.kind for it in found] == kinds, "the events"
-    assert found[0].text == room.setup.read_text(), "the set-up"
+    texts = [room.setup.read_text(), FIRST, "stored 1", "sh\\x5cow", "refused syntax"]
+    assert [found[it].text for it in (0, 2, 3, 4, 5)] == texts, "the set-up, and the lines with their answers"
     version = subprocess.run([PROGRAM, "--version"], stdout=subprocess.PIPE, text=True).stdout.split()[1]
     program = {"version": version, "program": hashlib.sha256(PROGRAM.read_bytes()).hexdigest(), "dropped": {}}
     empty, held = ({"commands": number, "export": hashlib.sha256(export.encode()).hexdigest()}
@@ -46,8 +47,6 @@ def test_what_is_noted(room):
     for it in found:
         assert re.fullmatch(r"\d{4}-\d\d-\d\dT\d\d:\d\d:\d\d\.\d{3}[+-]\d\d:\d\d", it.at), f"the time of {it}"
     assert modes(room.folder) == {"office": "drwxr-s---", "night.db": "-rw-------"}, "what is there"
-    words = ["sqlite3", room.folder / "night.db", "SELECT kind, text FROM event WHERE desk = 1 LIMIT 2"]
-    assert subprocess.run(words, stdout=subprocess.PIPE, text=True).stdout == f"line|{FIRST}\nanswer|stored 1\n", "what sqlite3 shows"
 
 
 @pytest.mark.parametrize("words", [

@@ -117,7 +117,7 @@ def each(kinds, is_all, job):
 
 
 class StopOf(Stop):
-    """A night with a stop of the office, of a desk, or of the witness, before a call; with the number 0 there is none. Writes to a file that
+    """A night with a stop of the office, of a desk, or of the witness before a call; with the number 0 there is none. Writes to a file that
     follow each other count once. `kinds` says what each call is, `unsynced` what office or witness sent of an event that was not on its
     device, or that had no answer."""
 

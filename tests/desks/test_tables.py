@@ -68,13 +68,15 @@ def test_forms(room):
 
 
 def test_largest():
-    """a table of 1,000 rows is entered, also after a stop before its commit; a table with one row more is refused"""
+    """a table of 1,000 rows is entered, also after a stop before its commit, and night.db has most of it; one with a row more is refused"""
     table = NAMES + "".join(f"{it // 32 + 1},{it % 32 + 1},1,{it}\n" for it in range(1000))
     with running(QuietRoom(setup=LARGE)) as room:
         is_refused(room, table + "32,32,1,5\n", "line 1002: the table has 1001 rows up to here; 1 to 1000 are allowed")
         room.ask(3, "open", *rows_of(table))
         is_in(room, table, "stored 1")
         assert len(room.noted()) == 1002, "lines"
+        assert (room.folder / "night.db-wal").stat().st_size < 1 << 19, "the -wal stays short"
+        assert (room.folder / "night.db").stat().st_size > 1 << 16, "night.db has it"
 
 
 # What is refused before anything is sent
