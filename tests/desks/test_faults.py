@@ -15,20 +15,13 @@ from processes import Process, until
 FIRST, SECOND = "return 1 1 1 525", "return 1 2 1 300"
 
 
-def answers(edit):
-    def change(room):
-        room.stop()
-        room.edits_answers(edit)
-        room.start()
-    return change
-
-
 def full_log(room):
     size = (room.folder / "night.db-wal").stat().st_size
     resource.prlimit(room.office.process.pid, resource.RLIMIT_FSIZE, (size + 30, resource.RLIM_INFINITY))
 
 
 ANOTHER = "night.disk is no longer the file"
+# A change while the office runs, or an edit of the program's answers, by sed; and the office's reason to end.
 FAULTS = {
     "put in its place": (lambda room: os.replace(room.other_disk(FIRST, SECOND), room.disk), ANOTHER),
     "removed": (lambda room: room.disk.unlink(), ANOTHER),
@@ -36,10 +29,10 @@ FAULTS = {
     "cut short": (lambda room: os.truncate(room.disk, 600_000), ANOTHER),
     "made longer": (lambda room: os.truncate(room.disk, 2_000_000), ANOTHER),
     "folder put aside": (lambda room: room.folder.rename(room.path / "aside"), "night.db is no longer the file"),
-    "full": (answers("s/stored 4/refused device/"), "the disk has failed: refused device. Copy it before anything else"),
-    "reopen-disk": (answers("s/stored 4/refused reopen-disk/"), "the disk has failed: refused reopen-disk"),
-    "a sheet without its end": (answers("/^constituency 2/Q"), "zhcount run has ended"),
-    "of another desk": (answers("s/^1 stored 4/2 stored 4/"), "zhcount answered desk 1 by '2 stored 4'"),
+    "full": ("s/stored 4/refused device/", "the disk has failed: refused device. Copy it before anything else"),
+    "reopen-disk": ("s/stored 4/refused reopen-disk/", "the disk has failed: refused reopen-disk"),
+    "a sheet without its end": ("/^constituency 2/Q", "zhcount run has ended"),
+    "of another desk": ("s/^1 stored 4/2 stored 4/", "zhcount answered desk 1 by '2 stored 4'"),
     "full log": (full_log, "night.db could not be written"),
     "put in its place at the end": (lambda room: os.replace(room.other_disk("return 3 1 1 90"), room.disk), ANOTHER),
     "put into the file at the end": (lambda room: shutil.copyfile(room.other_disk(), room.disk), "0 commands, and not all of the log's 3"),
@@ -53,10 +46,13 @@ def test_fault(new_room, name):
     (change, text), is_end, line = FAULTS[name], "at the end" in name, "sheet" if "sheet" in name else SECOND
     room = new_room
     room.folder = room.path / os.fsdecode(b"\xff\xfe")  # a path need not be UTF-8, and can be in a message
+    if isinstance(change, str):
+        room.edits_answers(change)
     room.start()
     desk = room.desk(1).talk(f"{FIRST} -> stored 1", "return 2 1 1 90 -> stored 2", "return 3 1 1 90 -> stored 3")
-    shown, own = [*desk.out], shutil.copy(room.disk, room.path / "own.disk")
-    change(room)
+    own = shutil.copy(room.disk, room.path / "own.disk")
+    if callable(change):
+        change(room)
     if is_end:
         room.office.kill(signal.SIGTERM)
     else:
@@ -64,7 +60,7 @@ def test_fault(new_room, name):
     room.office.says(text)
     room.ends(1 if line == "sheet" else 3)
     assert "every line is answered" not in room.office.said(), f"not said: {room.office.said()}"
-    assert desk.out == shown, "what the desk was shown"
+    assert len(desk.out) == 3, "nothing more is shown"
     if not room.folder.exists():
         (room.path / "aside").rename(room.folder)
     last = room.events()[-1]
