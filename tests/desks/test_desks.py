@@ -8,7 +8,7 @@ import signal
 import time
 
 from places import TOP
-from processes import stays, until
+from processes import until
 from room import SCRIPTS
 
 
@@ -102,7 +102,6 @@ def test_waits_for_an_office(new_room):
     room.stop(signal.SIGKILL)
     room.folder.rename(room.path / "aside")
     desk.says("the office has ended: waiting; what is unanswered is kept")
-    stays("it waits", lambda: not desk.has_ended(), 1)
     (room.path / "aside").rename(room.folder)
     room.start()
     desk.says("the office is back, start 2")

@@ -44,8 +44,7 @@ def test_what_is_noted(room):
                    for number, export in enumerate(["municipality,list,number,votes\n", room.zhcount("export")]))
     assert [found[it].facts() for it in (1, 7, 8)] == [{**program, **it} for it in (empty, held, held)], "the starts"
     assert [found[it].facts() for it in (6, 9)] == [{"reason": "told to", **held}] * 2, "the ends"
-    for it in found:
-        assert re.fullmatch(r"\d{4}-\d\d-\d\dT\d\d:\d\d:\d\d\.\d{3}[+-]\d\d:\d\d", it.at), f"the time of {it}"
+    assert all(re.fullmatch(r"\d{4}-\d\d-\d\dT\d\d:\d\d:\d\d\.\d{3}[+-]\d\d:\d\d", it.at) for it in found), "the times"
     assert modes(room.folder) == {"office": "drwxr-s---", "night.db": "-rw-------"}, "what is there"
 
 
