@@ -1,5 +1,4 @@
-"""What the office answers to whatever is typed, by docs/MANUAL.md: in the rehearsal's count, of three municipalities in each of which three
-lists stand, or in that of another canton."""
+"""What the office answers to any line, by docs/MANUAL.md, in the count of the rehearsal: three municipalities with three lists each."""
 import collections
 import re
 import types
@@ -13,18 +12,12 @@ FORMS = {"return": 4, "row": 4, "withdraw": 3, "show": 2, "last": 2, "close": 1,
 REHEARSAL = types.SimpleNamespace(constituency_of=[1, 2, 3], municipalities=lambda: range(1, 4), lists_in=lambda _: range(1, 4))
 
 
-def rows_of(export):
-    """The entries in an export by their places, a withdrawn one without votes."""
-    rows = [it.split(",") for it in export.split("\n")[1:-1]]
-    return {(int(m), int(g)): (int(n), None if v == "withdrawn" else int(v)) for m, g, n, v in rows}
-
-
 class Count(Office):
     """A count that is judged line by line, whatever is typed, and that knows which desk has entered a row. An office gives the rows of open
     batches again, so that they outlive a stop."""
 
-    def __init__(self, canton=REHEARSAL):
-        super().__init__(canton)
+    def __init__(self):
+        super().__init__(REHEARSAL)
         self.setters = {}
 
     def answer(self, line):
@@ -37,14 +30,14 @@ class Count(Office):
             return "refused syntax"
         before = dict(self.held)
         answer = self.misplaced(*taken) or super().answer(line)[2:]
-        self.setters.update({place: desk for place, entry in self.held.items() if entry != before.get(place)})
+        self.note_setters(desk, before)
         return answer
 
-    def misplaced(self, municipality=1, group=None, _=0, votes=0):
-        """The refusal of numbers that are no place in the canton; '' where there is none."""
+    def misplaced(self, municipality=1, group=1, _=0, votes=0):
+        """The refusal of numbers that are not a place in the canton, or too many votes; '' where both are right."""
         if municipality not in self.canton.municipalities():
             return "refused municipality"
-        if group is not None and group not in self.canton.lists_in(municipality):
+        if group not in self.canton.lists_in(municipality):
             return "refused list"
         return "refused votes" if votes > 10**9 else ""
 
@@ -54,19 +47,15 @@ class Count(Office):
     def on_sheet(self, desk):
         return super().on_sheet(desk) if any(votes for _, votes in self.held.values()) else "refused nogroup"
 
-    def load(self, *rows):
-        """A table that came by hand: a command of desk 0."""
-        self.hold({row[:2]: row[2:] for row in rows})
-        self.store()
-
     def become(self, commands, export, closed, **_):
-        """What came by hand: the disk has so many commands, these rows, and these municipalities closed."""
-        self.hold(rows_of(export))
+        """What came by hand, as by desk 0: the disk has this many commands, these rows, and these municipalities closed."""
+        before, rows = self.held, [it.split(",") for it in export.split("\n")[1:-1]]
+        self.held = {(int(m), int(g)): (int(n), None if v == "withdrawn" else int(v)) for m, g, n, v in rows}
         self.commands, self.closed = commands, {int(it) for it in closed}
+        self.note_setters(0, before)
 
-    def hold(self, rows):
-        self.setters.update({place: 0 for place, entry in rows.items() if entry != self.held.get(place)})
-        self.held.update(rows)
+    def note_setters(self, desk, before):
+        self.setters.update({place: desk for place, entry in self.held.items() if entry != before.get(place)})
 
 
 def random_line(chance, count):
@@ -76,13 +65,12 @@ def random_line(chance, count):
     words = {"return": 30, "withdraw": 6, "close": 4, "reopen": 6, "open": 8, "row": 22, "commit": 10, "drop": 2, "show": 5, "last": 3,
              "sheet": 2, "final": 1, "x y": 1}
     word = chance.choices([*words], [*words.values()])[0]
-    size = FORMS.get(word, 0)
-    return " ".join([word, *map(str, [municipality, group, number, chance.randint(0, 3000)][:size])])
+    return " ".join([word, *map(str, [municipality, group, number, chance.randint(0, 3000)][:FORMS.get(word, 0)])])
 
 
-def counted(found, canton=REHEARSAL):
+def counted(found):
     """What is held after the events of a log, each answer of which has to be that of the manual."""
-    count, lines, turns = Count(canton), {}, collections.Counter()
+    count, lines, turns = Count(), {}, collections.Counter()
     for it in found:
         turns[it.desk] += it.kind == "line"
         assert it.turn == turns[it.desk], f"the turn of {it}"

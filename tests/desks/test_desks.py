@@ -1,4 +1,4 @@
-"""Tests of what people at desks see: answers, stops of desk, office and run; and that the page says what to do about each text."""
+"""Tests of what people at desks see: answers, stops of desk, office and run; and that MANUAL says what to do about each text."""
 import ast
 import hashlib
 import os
@@ -8,24 +8,22 @@ import signal
 import time
 
 from places import TOP
-from processes import stays, until
+from processes import until
 from room import SCRIPTS
 
 
 def test_torn_line(room):
-    """a line without its end is not sent, and that is said"""
+    """a line without its end is not sent, and the desk says so"""
     desk = room.desk(6)
     status = desk.end("return 1 1 1 525\nreturn 1 1 2 53")
     assert (desk.out, status) == (["stored 1"], 1), "the answers"
     desk.says("not sent, since its end is missing: return 1 1 2 53")
     assert room.ask(6, "show 1 1").out == ["shows 1 525"], "the next line"
-    assert room.ask(5, "show 1 1").out == ["shows 1 525"], "another desk is not disturbed"
     room.check({6: ["return 1 1 1 525", "show 1 1"]})
 
 
 def test_for_itself(room):
-    """a desk speaks for itself alone, whatever is typed. Of a line with more than 120 bytes the first 121 are sent, which is said; the log
-    grows no further, whatever the bytes are"""
+    """a desk speaks for itself alone, whatever is typed; of a line with more than 120 bytes it sends 121, and says so"""
     lines = ["4 return 1 1 1 525", "4 show 1 1", "", " show 1 1", "show\t1 1", "sh\\ow", "é", "\\x0a4 close 1", "{}", "x" * 120, "\0" * 120,
              "y" * 121, "z" * 9000, "\0" * 9001]
     noted = [*lines[:4], "show\\x091 1", "sh\\x5cow", "\\xc3\\xa9", "\\x5cx0a4 close 1", "{}", "x" * 120, "\\x00" * 120,
@@ -40,22 +38,18 @@ def test_for_itself(room):
 
 def test_endless_line(room):
     """a line without an end is not kept in memory"""
-    desk = room.desk(3).talk("show 1 1 -> none")
-
     def memory():
         return int(re.search(r"VmHWM:\s+(\d+) kB", pathlib.Path(f"/proc/{desk.process.pid}/status").read_text())[1])
 
+    desk = room.desk(3).talk("show 1 1 -> none")
     before = memory()
-    for _ in range(24):
-        desk.write("x" * 2**20)
-    desk.write("\n")
+    desk.write("x" * (24 << 20) + "\n")
     assert desk.answer() == "refused syntax"
     assert memory() < before + 8000, f"the memory: {before} kB, then {memory()} kB"
 
 
 def test_sheet(room):
-    """a sheet is shown whole, with its desk, also to a desk that the office answers after a stop; a new connection says its first line.
-    What the group may open is not locked"""
+    """a sheet is shown whole, with its desk, also after a stop; a new connection shows its first line. The group can lock no file of it"""
     lines = ["return 1 1 1 525", "return 2 1 1 240", "return 3 1 1 90"]
     room.ask(1, *lines)
     wanted = room.zhcount("run", disk=room.other_disk(*lines), given="3 sheet\n")
@@ -75,7 +69,7 @@ def test_sheet(room):
 
 
 def test_run_is_killed(room):
-    """kill -9 of run: the office ends, which it notes with the reason, and a new one goes on"""
+    """kill -9 of run: the office ends and notes the reason, and a new one goes on"""
     desk = room.desk(1).talk("return 1 1 1 525 -> stored 1")
     os.kill(room.run_of_office(), signal.SIGKILL)
     room.ends(1, "zhcount run has ended: killed by signal 9")
@@ -86,8 +80,7 @@ def test_run_is_killed(room):
 
 
 def test_waits_for_an_office(new_room):
-    """a desk waits for an office, for the answer of one that stands still, which it says once, and for one that comes again, also while the
-    folder is not there; a line that no office had taken is sent again"""
+    """a desk waits for an office, and for the answer of one that stands still or comes again; a line that was not taken is sent again"""
     room = new_room
     room.edit_script("zhcount-desk", r"^PATIENCE = 10", "PATIENCE = 1")
     desk = room.desk(1)
@@ -109,7 +102,6 @@ def test_waits_for_an_office(new_room):
     room.stop(signal.SIGKILL)
     room.folder.rename(room.path / "aside")
     desk.says("the office has ended: waiting; what is unanswered is kept")
-    stays("it waits", lambda: not desk.has_ended(), 1)
     (room.path / "aside").rename(room.folder)
     room.start()
     desk.says("the office is back, start 2")
@@ -122,19 +114,19 @@ def test_desk_costs_nothing_while_it_waits(room):
     """office and desks that have nothing to do use no processor"""
     pids = [room.office.process.pid, *(room.desk(number).talk("show 1 1 -> none").process.pid for number in range(1, 9))]
 
-    def ticks():
-        found = [pathlib.Path(f"/proc/{it}/stat").read_text().rpartition(")")[2].split() for it in pids]
-        return sum(int(it[11]) + int(it[12]) for it in found)
-
     def is_at_rest():
         before = ticks()
         time.sleep(3)
         return ticks() <= before + 6
+
+    def ticks():
+        found = [pathlib.Path(f"/proc/{it}/stat").read_text().rpartition(")")[2].split() for it in pids]
+        return sum(int(it[11]) + int(it[12]) for it in found)
     until("at most 6 ticks of 10 ms are used in 3 s", is_at_rest, 9)  # a busy machine may let them come to rest late
 
 
 def test_manual_has_each_text():
-    """MANUAL says what to do about each text that a desk shows beside answers, and says of a table"""
+    """MANUAL says what to do about each text that a desk shows beside answers, or about a table"""
     source = "".join((SCRIPTS / it).read_text().partition("\ndef text_of")[0] for it in ("zhcount-desk", "zhcount_tables.py"))
     pieces = [it.value for it in ast.walk(ast.parse(re.sub('""".*?"""', '""', source, flags=re.S))) if isinstance(it, ast.Constant)]
     found = sorted({it.strip() for it in map(str, pieces) if re.search(r"[a-z]+ [a-z]+", it)})

@@ -1,14 +1,15 @@
-"""Tests of the disk that zhcount-office --rebuild makes: whole or not at all, over no other file, from a log that nobody else has, with the
-set-up of the log; and of what a rebuild leaves that is killed."""
+"""Tests of the disk that zhcount-office --rebuild makes: whole or not at all, over no other file, with the set-up of the log."""
 import itertools
 import os
 import shutil
+import signal
 import stat
 
 import pytest
 
 from disks import DISK_BYTES
-from processes import Process, until
+from places import PROGRAM
+from processes import Process
 from watch import WatchedRoom
 
 
@@ -20,11 +21,12 @@ def written(night):
 
 
 def test_nothing_is_overwritten(written):
-    """a disk that is there is left as it is, whatever it is; so is one that comes meanwhile"""
-    (written.path / "file").write_text("mine")
-    (written.path / "folder").mkdir()
-    (written.path / "link").symlink_to("nowhere")
-    for path in (written.path / "file", written.path / "folder", written.path / "link"):
+    """a file, folder or link at the disk's path is left as it is, and so is a file that comes on the way"""
+    file, folder, link = (written.path / it for it in ("file", "folder", "link"))
+    file.write_text("mine")
+    folder.mkdir()
+    link.symlink_to("nowhere")
+    for path in (file, folder, link):
         before = os.lstat(path)
         said = written.zhcount_office("--rebuild", written.folder, path, status=1)
         assert f"{path} is there already" in said, f"a {path.name}"
@@ -32,7 +34,7 @@ def test_nothing_is_overwritten(written):
     written.stands_in(f"[ $1 = export ] && echo mine > '{written.new}'")
     assert "not made: [Errno 17] File exists: " in written.rebuild(status=1), "it is said"
     assert written.new.read_bytes() == b"mine\n", "one that came"
-    assert [it for it in os.listdir(written.path) if it.startswith("new.disk.")] == [], "nothing else is left"
+    assert [*written.path.glob("new.disk.*")] == [], "nothing else is left"
 
 
 def test_whole_or_not_at_all(written):
@@ -42,7 +44,6 @@ def test_whole_or_not_at_all(written):
         folder = room.path / "made"
         folder.mkdir()
         shutil.copytree(written.folder, room.folder)
-        room.folder.chmod(0o2750)
         room.process(Process, room.script("zhcount-office", "--rebuild", room.folder, folder / "new.disk")).ends_with(0, "the rebuild")
         steps = [(name, path) for name, path in calls if path.startswith(str(folder)) and name != "look"]
         names = " ".join(name for name, _ in itertools.groupby(steps, lambda it: it[0]))
@@ -53,19 +54,17 @@ def test_whole_or_not_at_all(written):
         assert (stat.filemode(made.st_mode), made.st_size) == ("-rw-------", DISK_BYTES), "who may use it, and its bytes"
 
 
-def test_beside_an_office(new_room):
-    """while an office runs, replay, rebuild and another office say who has the folder, and it goes on; after its end they work, and it can
-    start again"""
-    new_room.start()
-    assert new_room.ask(1, "return 1 1 1 525").out == ["stored 1"]
-    for status, *words in ((1, "--replay", new_room.folder), (1, "--rebuild", new_room.folder, new_room.path / "new.disk"),
-                           (3, new_room.setup, new_room.disk, new_room.folder)):
-        said = new_room.zhcount_office(*words, status=status)
-        who = f"another office, witness or replay has {new_room.folder}: zhcount-office, process {new_room.office.process.pid} of"
+def test_beside_an_office(room):
+    """while an office runs, replay, rebuild and another office name it, and it goes on; after its end they work, and it can start again"""
+    assert room.ask(1, "return 1 1 1 525").out == ["stored 1"]
+    for status, *words in ((1, "--replay", room.folder), (1, "--rebuild", room.folder, room.path / "new.disk"),
+                           (3, room.setup, room.disk, room.folder)):
+        said = room.zhcount_office(*words, status=status)
+        who = f"another office, witness or replay has {room.folder}: zhcount-office, process {room.office.process.pid} of"
         assert who in said, f"{words[0]}: {said}"
-    assert new_room.ask(1, "return 1 2 1 300").out == ["stored 2"]
-    new_room.check()
-    new_room.start()
+    assert room.ask(1, "return 1 2 1 300").out == ["stored 2"]
+    room.check()
+    room.start()
 
 
 def test_set_up_of_the_log(written):
@@ -79,23 +78,15 @@ def test_set_up_of_the_log(written):
 
 
 def test_killed_rebuild(written):
-    """the folder in memory of a rebuild that was killed is removed by the next one; that of one that is at work stays"""
+    """a rebuild removes the folder in memory of one that was killed, and leaves that of one at work"""
     memory = written.path / "memory"  # of this test alone: any office beside it would remove what is left
-    memory.mkdir()
+    at_work = memory / f"zhcount-{os.geteuid()}-{os.getpid()}-x"
+    at_work.mkdir(parents=True)
     written.edit_script("zhcount_program.py", r'"/dev/shm" if .* else tempfile\.gettempdir\(\)', repr(str(memory)))
-    other = shutil.copytree(written.folder, written.path / "another")
-    other.chmod(0o2750)
-    first = written.path / "first"
-    first.touch()
-    written.stands_in(f"[ $1 = run ] && rm '{first}' 2> /dev/null && cat > /dev/null")  # the first run says nothing
-    rebuild = written.process(Process, written.script("zhcount-office", "--rebuild", written.folder, written.new))
-    until("it waits", lambda: not first.exists())
-    left = list(memory.iterdir())
-    written.zhcount_office("--replay", other)
-    assert list(memory.iterdir()) == left, "that of one at work stays"
-    rebuild.kill()
-    rebuild.wait()
-    assert left and list(memory.iterdir()) == left, "a killed one leaves it"
+    written.stands_in("[ $1 = run ] && kill -9 $PPID")
+    written.rebuild(status=-signal.SIGKILL)
+    assert len([*memory.iterdir()]) == 2, "it is left"
+    written.environment["ZHCOUNT"] = str(PROGRAM)
     written.rebuild()
-    assert list(memory.iterdir()) == [], "the next one removes it"
+    assert [*memory.iterdir()] == [at_work], "the next one removes it"
     assert "the same: " in written.replay(), "the log is as before"

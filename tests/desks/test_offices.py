@@ -1,5 +1,4 @@
 """Tests of an office alone: what it notes, its signals, its own log, who may use its files, its unit."""
-import ast
 import hashlib
 import os
 import re
@@ -12,7 +11,7 @@ import subprocess
 import pytest
 
 from logs import check_chain
-from places import PROGRAM, TOP
+from places import PROGRAM
 from processes import stays, until
 from room import SCRIPTS
 
@@ -26,8 +25,7 @@ def modes(folder):
 
 
 def test_what_is_noted(room):
-    """a start has the program's version and sum, and the commands and the export's sum of the disk; an end the reason, and those. After a
-    clean end night.db has all that was sent and answered, which sqlite3 shows, and nothing else is left"""
+    """a start notes program and disk, an end its reason and the disk; a clean end leaves night.db alone, with all lines and answers"""
     assert room.ask(1, FIRST, "sh\\ow").out == ["stored 1", "refused syntax"]
     room.stop()
     room.start()
@@ -38,18 +36,16 @@ def test_what_is_noted(room):
     found = room.events()
     kinds = ["setup", "start", *["line", "answer"] * 2, "ended", "start", "start", "ended"]
     assert [it.kind for it in found] == kinds, "the events"
-    assert found[0].text == room.setup.read_text(), "the set-up"
+    texts = [room.setup.read_text(), FIRST, "stored 1", "sh\\x5cow", "refused syntax"]
+    assert [found[it].text for it in (0, 2, 3, 4, 5)] == texts, "the set-up, and the lines with their answers"
     version = subprocess.run([PROGRAM, "--version"], stdout=subprocess.PIPE, text=True).stdout.split()[1]
     program = {"version": version, "program": hashlib.sha256(PROGRAM.read_bytes()).hexdigest(), "dropped": {}}
     empty, held = ({"commands": number, "export": hashlib.sha256(export.encode()).hexdigest()}
                    for number, export in enumerate(["municipality,list,number,votes\n", room.zhcount("export")]))
     assert [found[it].facts() for it in (1, 7, 8)] == [{**program, **it} for it in (empty, held, held)], "the starts"
     assert [found[it].facts() for it in (6, 9)] == [{"reason": "told to", **held}] * 2, "the ends"
-    for it in found:
-        assert re.fullmatch(r"\d{4}-\d\d-\d\dT\d\d:\d\d:\d\d\.\d{3}[+-]\d\d:\d\d", it.at), f"the time of {it}"
+    assert all(re.fullmatch(r"\d{4}-\d\d-\d\dT\d\d:\d\d:\d\d\.\d{3}[+-]\d\d:\d\d", it.at) for it in found), "the times"
     assert modes(room.folder) == {"office": "drwxr-s---", "night.db": "-rw-------"}, "what is there"
-    words = ["sqlite3", room.folder / "night.db", "SELECT kind, text FROM event WHERE desk = 1 LIMIT 2"]
-    assert subprocess.run(words, stdout=subprocess.PIPE, text=True).stdout == f"line|{FIRST}\nanswer|stored 1\n", "what sqlite3 shows"
 
 
 @pytest.mark.parametrize("words", [
@@ -58,14 +54,14 @@ def test_what_is_noted(room):
     *(f"zhcount-desk {it}" for it in ("", "0", "9", "x", "1 a b", "--none")),
     *(f"zhcount-witness {it}" for it in ("", "a b", "--else a"))])
 def test_arguments(words, tmp_path):
-    """arguments that are none have status 2, and nothing is made"""
+    """wrong arguments have status 2, and nothing is made"""
     script, *more = shlex.split(words)
     ran = subprocess.run([SCRIPTS / script, *more], cwd=tmp_path, capture_output=True, text=True)
     assert (ran.returncode, os.listdir(tmp_path)) == (2, []), f"the status of {words}: {ran.stderr}"
 
 
 def test_told_to_end(room):
-    """TERM ends the office after the line at work, and a second one at once, with what is unanswered"""
+    """TERM ends the office after the line at work; a second signal ends it at once, and it names the line without an answer"""
     desks = {number: room.desk(number).talk("show 1 1 -> none") for number in (1, 2)}
     run_process = room.unanswered(desks[1], FIRST)
     desks[2].write("return 2 1 1 240\n")
@@ -87,7 +83,7 @@ def test_told_to_end(room):
 
 
 def test_told_again_at_the_end(new_room):
-    """Ctrl-C, and again while the office looks at the disk for the last time, is no fault of the program: the status stays 0"""
+    """Ctrl-C, and again while the office looks at the disk for the last time, does not reach the program: the status stays 0"""
     flag, seen = new_room.path / "flag", new_room.path / "seen"
     waits = f"touch '{seen}'; while [ -e '{flag}' ]; do sleep 0.02; done"
     new_room.stands_in(f"[ $1 = status ] && [ -e '{flag}' ] && {{ trap 'exit 1' INT; {waits}; }}")  # bash alone would overhear some INT
@@ -105,8 +101,7 @@ def test_told_again_at_the_end(new_room):
 @pytest.mark.parametrize("before", ["umask 077", "umask 000", "trap '' HUP", "exec 2> /dev/full", "exec 2>&-", "exec <&- >&- 2>&-",
                                     "exec 2> {}"])
 def test_started_after(new_room, before):
-    """whatever the umask, ignored signals, a folder that a stop left, and streams that are closed, full or read by nobody: an office
-    serves, its files have the same modes, and none of them is a stream"""
+    """after any umask, with an ignored signal, and with streams closed, full or read by nobody: an office serves, with the same modes"""
     room = new_room
     room.folder.mkdir(mode=0o700)
     pipe = os.pipe2(os.O_NONBLOCK)
@@ -128,17 +123,8 @@ def test_started_after(new_room, before):
         os.close(it)
 
 
-def test_python_of_the_scripts():
-    """each script can be read by Python 3.8, which a page names"""
-    for path in SCRIPTS.iterdir():
-        if path.suffix == ".py" or path.is_file() and path.read_bytes().startswith(b"#!/usr/bin/env python3"):
-            ast.parse(path.read_text(), path.name, feature_version=(3, 8))
-    assert re.search(r"Python\s+3\.8", (TOP / "docs/MANUAL.md").read_text()), "MANUAL says so"
-
-
 def test_unit(tmp_path):
-    """systemd finds nothing wrong with the unit, and little that it could do beyond its task; it starts an office again however it ended,
-    but where a person has to look, and lets it have sockets of this machine alone"""
+    """systemd finds little that the unit could do beyond its task; it starts an office again, unless a person has to look first"""
     text = UNIT.read_text()
     for line in ("StartLimitIntervalSec=0", "RestartPreventExitStatus=2 3", "RestrictAddressFamilies=AF_UNIX"):
         assert line in text.splitlines(), line

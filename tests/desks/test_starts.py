@@ -1,5 +1,5 @@
-"""What a start decides: what became of the line without an answer, and whether the disk is that of the log; and that it gives the rows of
-open batches again, which live in the memory of run. Each case is made by stops at chosen moments, and by hand."""
+"""What a start decides: the answer of the line that has none, and whether the disk is that of the log; and that it gives the rows of open
+batches again, which are in the memory of run only. Stops at chosen moments and commands by hand make each case."""
 import pytest
 
 from places import PROGRAM
@@ -26,18 +26,14 @@ CASES = [*((line, LOST, "", answer) for line, answer in LINES.items()),
 
 @pytest.mark.parametrize("line, fate, by_hand, answer", CASES, ids=["-".join(filter(None, it[:3])) for it in CASES])
 def test_line_without_an_answer(room, line, fate, by_hand, answer):
-    """the line that a stop left without an answer gets the one that it would have had, whether the run got it or not. What came by hand
-    is noted with the disk before that: it is not taken for the line's command. The disk made anew has all"""
+    """the line that a stop left without an answer gets the one that it would have had; what came by hand is noted first, with the disk"""
     desk = room.stops_at(room.desk(1).talk(*BEFORE), line, fate == STORED)
-    count = by_hand and 1 + by_hand.count(";") + (fate == STORED)
     if "," in by_hand:
         room.load(by_hand)
     elif by_hand:
         room.by_hand(*by_hand.split("; "))
     room.start()
     assert desk.answer(line) == answer, "the answer"
-    if by_hand:
-        room.office.says(f"{count} command{'s' * (count > 1)} came in by hand before this start")
     is_found = fate == STORED and answer == "stored 4"
     room.office.says(f"desk 1: {line} is on the disk: stored 4" if is_found else f"desk 1: {line} is not on the disk: it is given again")
     assert [it for it, _ in room.of_desk(1)].count(line) == 1 + (line == "return 1 1 1 525"), "it is answered once"
@@ -47,14 +43,15 @@ def test_line_without_an_answer(room, line, fate, by_hand, answer):
     assert desk.end() == 0, "the end of the desk"
     room.check()
     if by_hand:
+        count = 1 + by_hand.count(";") + (fate == STORED)
+        room.office.says(f"{count} command{'s' * (count > 1)} came in by hand before this start")
         assert room.rebuilt() == room.zhcount("export"), "the export is that of the disk made anew"
         assert room.zhcount("status", disk=room.path / "new.disk") == room.zhcount("status"), "its status"
 
 
 @pytest.mark.parametrize("is_stored", [True, False], ids=["outlived", "lost"])
 def test_told_what_became_of_it(room, is_stored):
-    """the line is answered before any desk is let in, and once, also where the office ends then; a new connection is told what became of
-    it, and what another desk has done stays"""
+    """the line is answered once, before any desk is let in, also if the office ends then; a new connection shows the answer"""
     room.stops_at(room.desk(1).talk(*BEFORE), "close 1", is_stored).kill()
     desk, flag = room.desk(1), room.path / "flag"
     flag.touch()
@@ -76,16 +73,15 @@ def test_told_what_became_of_it(room, is_stored):
 
 
 def test_batches_are_given_again(room):
-    """rows of open batches are given again, before any desk, without a record, also after a refused commit, and a new connection is told of
-    them; those of a committed or dropped one are not"""
+    """rows of open batches are given again, before any desk, without a record, also after a refused commit; others are not"""
     room.ask(5, "open", "row 1 1 1 525", "row 1 2 1 300")
     room.ask(6, "open", "row 2 1 1 240", "commit")
     room.ask(7, "open", "row 2 2 1 330", "drop")
     assert room.ask(8, "open", "row 2 1 1 240", "commit").out[-1] == "same", "it was entered before"
     assert room.ask(4, "open", "row 1 1 2 525", "commit").out[-1] == "refused gap", "it is refused"
     room.ask(5).says(OPEN.format(2))
-    for _ in range(2):
-        room.restart()
+    room.restart()
+    room.restart()
     assert room.ask(4, "commit", "drop").out == ["refused gap", "dropped 1"], "it is still open"
     desk = room.ask(5, "row 1 3 1 120", "commit", "show 1 1")
     desk.says("before: row 1 2 1 300: held 2", OPEN.format(2))
@@ -93,13 +89,12 @@ def test_batches_are_given_again(room):
     for number in (6, 7, 8):
         desk = room.ask(number, "commit")
         assert (desk.out, "a batch is open" in desk.said()) == (["refused nobatch"], False), f"desk {number}"
-    lines = ["open", "row 1 1 1 525", "row 1 2 1 300", "row 1 3 1 120", "commit", "show 1 1"]
-    room.check({5: lines})
+    room.check({5: ["open", "row 1 1 1 525", "row 1 2 1 300", "row 1 3 1 120", "commit", "show 1 1"]})
 
 
 @pytest.mark.parametrize("line, answer", [("commit", "refused nobatch"), ("row 2 1 1 240", "refused nobatch")])
 def test_batch_that_does_not_fit(room, line, answer):
-    """a batch one of whose rows run now refuses is dropped, which its desk is told; a line that has no answer is then given without it"""
+    """a batch with a row that run now refuses is dropped, and its desk says so; a line that has no answer is then given without it"""
     desk = room.desk(5).talk("open -> held 0", "row 1 1 1 525 -> held 1", "row 1 2 1 300 -> held 2")
     room.stops_at(desk, line).kill()
     room.edits_answers("s/held 2/refused memory/")
