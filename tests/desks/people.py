@@ -1,4 +1,4 @@
-"""People at desks, whose lines are each typed once the one before is answered, whatever is stopped meanwhile."""
+"""People at desks, who type each line once the one before is answered, whatever is stopped in between."""
 import re
 import signal
 
@@ -8,8 +8,8 @@ BEFORE = re.compile(r"zhcount-desk: before: (.*?): (.*)")
 
 
 class Person:
-    """Who works at a desk: types a line, reads its answer, and connects again where the desk has ended, with one of the statuses `may_end`.
-    `typed` has each line with the first line of what was shown for it, None as long as nothing was. `meanwhile` is called in each wait."""
+    """Somebody at a desk, who connects again when the desk has ended with one of the statuses `may_end`. `typed` has each line with the
+    first line of its answer, or None until that is shown. `meanwhile` is called again and again."""
 
     def __init__(self, room, number, typed=(), meanwhile=lambda: None, may_end=(-signal.SIGKILL,)):
         self.room, self.number, self.meanwhile, self.may_end = room, number, meanwhile, may_end
@@ -24,29 +24,25 @@ class Person:
         return answer
 
     def answer(self, line):
-        """What is shown for a line; None where the desk has ended."""
+        """What is shown for a line, or None if the desk has ended."""
         answer = None
         if not self.desk:
             self.desk = self.room.desk(self.number)
             answer = self.greeting(line)
-        if self.desk.has_ended():
-            answer = HAS_ENDED
-        elif answer is None:
+        if answer is None:
             self.desk.write(f"{line}\n")
             answer = self.desk.answer(line, self.meanwhile)
-        if answer != HAS_ENDED:
-            return answer
-        status = self.desk.wait()
-        assert self.is_excused(status), f"desk {self.number} ends with {status}: {self.desk.said()}"
-        self.desk = None
-        return None
+        if answer == HAS_ENDED:
+            status = self.desk.wait()
+            assert self.is_excused(status), f"desk {self.number} ends with {status}: {self.desk.said()}"
+            self.desk = answer = None
+        return answer
 
     def is_excused(self, status):
         return status in self.may_end
 
     def greeting(self, line):
-        """What a new connection says of the last line, where that is this one; else None. Of one that was shown to be answered it has to
-        speak, with that answer."""
+        """The answer that a new connection tells to this line, or None. It must tell the answer to a line before, once that was shown."""
         desk, (*shown, _) = self.desk, self.typed
         until(lambda: f"desk {self.number} is let in: {desk.said()}", lambda: self.meanwhile() or desk.is_let_in() or desk.has_ended())
         if self.room.of_desk(self.number):
@@ -60,6 +56,6 @@ class Person:
         return None
 
     def check(self):
-        """What was shown is what the log has."""
+        """The log has what was shown."""
         noted = [(line, re.sub(r"^(sheet \w+ \d+) .*", rf"{self.number} \1", answer)) for line, answer in self.room.of_desk(self.number)]
         assert noted == self.typed, f"what is noted of desk {self.number}"

@@ -1,5 +1,4 @@
-"""Tests of an office's socket: whatever comes over it, how it is reached, and connections: to an office that has another log by now, one
-alone for each desk, and their streams."""
+"""Tests of an office's socket: bytes of any kind, its path, several connections of one desk, an office with another log, and streams."""
 import contextlib
 import json
 import os
@@ -23,21 +22,18 @@ def connected(room):
 
 
 def at_socket(room, *sent, seconds=SECONDS):
-    """What the office answers to these bytes, of which each waits for the answer to those before, and whether it ends the connection."""
+    """What the office answers to these bytes, each sent after the answer to those before, and whether it ends the connection."""
     got = b""
-    with connected(room) as at:
+    with connected(room) as at, contextlib.suppress(BrokenPipeError, ConnectionResetError):  # it has ended, with bytes on their way
         at.settimeout(seconds)
         try:
             for it in sent:
-                with contextlib.suppress(BrokenPipeError, ConnectionResetError):
-                    at.sendall(it)
+                at.sendall(it)
                 got += at.recv(65536)
             while more := at.recv(65536):
                 got += more
         except TimeoutError:
             return got, False
-        except ConnectionResetError:  # what was on its way is gone
-            pass
     return got, True
 
 
@@ -58,8 +54,8 @@ NO_DESKS = [b'{"desk": 0}\n', b'{"desk": 9}\n', b'{"desk": "3"}\n', b'{"desk": t
 
 
 def test_garbage(room):
-    """only a line in its one spelling, alone, with the turn that is the next, also after those of a start before, is taken; whatever else
-    comes ends that connection alone, is not noted, and the office's own log has each text once"""
+    """only a line in its one spelling, alone, with the next turn, also if that comes after those of an earlier start, is taken. Anything
+    else ends its connection alone and is not noted, and the office's own log has each text once"""
     room.ask(3, "show 3 3")
     room.restart()
     good = room.desk(2).talk("return 1 1 1 525 -> stored 1")
@@ -110,7 +106,7 @@ def test_nobody_is_disturbed(room):
 
 
 def test_long_sheet_that_waits(new_room):
-    """a desk that reads a sheet late that has more bytes than the socket takes at once shows all of it, and no other desk waits for that"""
+    """a desk that reads a sheet late, with more bytes than the socket takes at once, shows all of it, and no other desk waits for that"""
     new_room.edits_answers("/^house/{s/^/XXXXXXXXXX/;" + "s/X*/&&/;" * 15 + "}")
     new_room.start()
     desk = new_room.desk(1).talk(*(f"return {municipality} 1 1 90 -> stored {municipality}" for municipality in (1, 2, 3)))
@@ -125,7 +121,7 @@ def test_long_sheet_that_waits(new_room):
 
 
 def test_long_path(new_room):
-    """a folder whose path is longer than a socket's may be has its socket, whoever names it how, also after a stop"""
+    """a folder whose path is longer than that of a socket can be has its socket, by each of its names, also after a stop"""
     new_room.folder = new_room.path / ("long" * 30) / ("longer" * 20)
     new_room.folder.parent.mkdir()
     new_room.start()
@@ -138,7 +134,7 @@ def test_long_path(new_room):
 
 
 def test_line_that_was_not_sent(room):
-    """a desk gives up a line that it has not sent where another connection has its turn: that one's answer is not shown"""
+    """a desk gives up a line that it has not sent if another connection has its turn, and does not show the answer to that one"""
     desk = room.desk(3).talk("show 1 1 -> none")
     stand_still(desk.process.pid)
     desk.write("close 1\n")
@@ -152,8 +148,8 @@ def test_line_that_was_not_sent(room):
 
 @pytest.mark.parametrize("change, others, shown", [("another log", 2, "none"), ("older copy", 0, "none"), ("other lines", 1, "shows 1 90")])
 def test_connect_again(room, change, others, shown):
-    """a desk that waits for an answer, or for a line, ends when its office has another log, though with as many lines, an older copy of it,
-    or lines of another connection, and says what has no answer, which is not sent; the next connection begins anew"""
+    """a desk that waits, for an answer or for a line, ends if its office has another log, even one with as many lines, an older copy of it,
+    or lines of another connection. It says which line has no answer, and the next connection begins anew"""
     desk = room.desk(3).talk("show 1 1 -> none")
     room.stop()
     copied = (room.folder / "night.db").read_bytes()
@@ -169,8 +165,7 @@ def test_connect_again(room, change, others, shown):
         (room.folder / "night.db").write_bytes(copied)
         (room.folder / "night.db-wal").unlink()
     room.start()
-    if others:
-        assert room.ask(3, *["show 1 1"] * others).out == ["none"] * others, "another connection"
+    assert room.ask(3, *["show 1 1"] * others).out == ["none"] * others, "another connection"
     desk.kill(signal.SIGCONT)
     for it in [desk] if change == "other lines" else [desk, is_idle]:
         assert it.wait() == 1, "its end"
@@ -187,9 +182,8 @@ time = SimpleNamespace(strftime=real.strftime, monotonic=lambda: float(open({!r}
 
 @pytest.mark.parametrize("has_typed", [False, True], ids=["idle", "stopped"])
 def test_second_connection(new_room, has_typed):
-    """of two connections with one number the second is refused, and told who has the desk since when, as long as the first was heard of a
-    moment ago. One that is silent is taken over at once, ends, and its line is in its place; one that stands still meanwhile gives up the
-    line that it has not sent. A desk whose answers nobody reads ends, and another one is let in"""
+    """a second connection with the number of another one is refused, and learns who has the desk since when, unless that one was silent for a
+    while. Then it takes its place: the first ends, and gives up a line that it has not sent. A desk whose answers nobody reads ends"""
     room, clock = new_room, new_room.path / "clock"  # by which an office knows how long a desk is silent
     clock.write_text("0")
     room.edit_script("zhcount_connections.py", "^import time$", CLOCK.format(str(clock)))
@@ -220,7 +214,7 @@ def test_second_connection(new_room, has_typed):
 
 
 def test_closed_streams(room):
-    """the log never takes the place of standard input, output or error; where nobody reads what is said each line is answered"""
+    """the log never takes the place of a standard stream that is closed; each line is answered even if nobody reads the texts beside"""
     room.ask(3, "return 1 1 1 525")
     pipe = os.pipe2(os.O_NONBLOCK)
     os.write(pipe[1], b"x" * 65536)  # as much as it takes
