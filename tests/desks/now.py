@@ -16,14 +16,12 @@ NEVER = 3600  # seconds
 UNCONFIRMED = "municipality,list,number,votes,desk,municipality_name,list_name\n"
 # The files of `now`, each with the task of the program that writes it.
 FILES = {"status": "status", "missing": "status --missing", "implausible": "status --implausible", "held.csv": "export",
-         "votes.csv": "votes", "vote-groups.csv": "votes --of groups"}
-SEATS = {"seats": "seats --table", "seats.csv": "seats", "seat-groups.csv": "seats --of groups",
-         "seat-constituencies.csv": "seats --of constituencies"}
+         "votes.csv": "votes", "vote-groups.csv": "votes --of groups", "seats": "seats --table", "seats.csv": "seats",
+         "seat-groups.csv": "seats --of groups", "seat-constituencies.csv": "seats --of constituencies"}
 
 
 class QuickRoom(Room):
-    """A room whose office copies the disk more often, has more patience with a child, gives it as much of the processor as itself, and
-    repeats each text."""
+    """A room whose office copies the disk more often, with a child that has more time and usual priority, and repeats each text."""
 
     def __init__(self, every=0.2, priority=0, **more):
         super().__init__(**more)
@@ -82,26 +80,21 @@ def names_of_now(room):
 
 
 def model(room, lines, line):
-    """The files of `now` and those of `publish`, without the page, as the program writes them for a disk with these lines. Seats are those
-    of a sheet that this line asks for."""
-    disk = room.other_disk(*lines)
-    flags = ["--final"] if line == "final" else []
-    ran = {name: room.ran(*words.split(" "), disk=disk) for name, words in FILES.items()}
-    seats = {name: room.ran(*words.split(" "), *flags, disk=disk) for name, words in SEATS.items()}
-    files = {"sums": ran["status"].stderr, **{name: it.stdout for name, it in ran.items()}}
+    """The files of `now`, and those of `publish`, as the program writes them after these lines, with the seats that this line asks for."""
+    disk, flags = room.other_disk(*lines), ["--final"] if line == "final" else []
+    ran = {name: room.ran(*words.split(" "), *(flags if "seats" in words else []), disk=disk) for name, words in FILES.items()}
+    files = {"sums": ran["status"].stderr, **{name: it.stdout for name, it in ran.items() if it.returncode == 0}}
     published = {"setup.toml": room.setup.read_text()}
-    if seats["seats"].stdout:
-        files.update({name: it.stdout for name, it in seats.items()})
+    if "seats" in files:
         published["sheet.txt"] = room.zhcount("run", disk=disk, given=f"1 {line}\n")
     else:
-        files.update({name: seats["seats"].stderr for name in ("seats", "no-seats")})
+        files["seats"] = files["no-seats"] = ran["seats"].stderr
     published.update({name: text for name, text in files.items() if name.endswith(".csv") or name == "no-seats"})
     return files, published
 
 
 def compare(room, lines, unconfirmed=None, shown=1000, line="sheet"):
-    """Waits for the `now` after these lines, all stored, whose files must be those of the model. If `unconfirmed` is not given, all returns
-    are, at desk 1. `lines.csv` has this number of lines at most. The folder."""
+    """Waits for the `now` after these lines, and compares it with the model. By default all returns are unconfirmed, entered by desk 1."""
     now, (files, published) = room.shows(len(lines)), model(room, lines, line)
     if unconfirmed is None:
         rows = [it.split(" ")[1:] for it in lines if it.startswith("return ")]

@@ -44,10 +44,8 @@ class Person:
     def greeting(self, line):
         """The answer that a new connection tells to this line, or None. It must tell the answer to a line before, once that was shown."""
         desk, (*shown, _) = self.desk, self.typed
-        until(lambda: f"desk {self.number} is let in: {desk.said()}", lambda: self.meanwhile() or desk.is_let_in() or desk.has_ended())
-        if self.room.of_desk(self.number):
-            until(lambda: f"desk {self.number} speaks of its last line: {desk.said()}",
-                  lambda: self.meanwhile() or BEFORE.search(desk.said()) or desk.has_ended())
+        until(lambda: f"desk {self.number} is let in, and speaks of its last line: {desk.said()}", lambda: self.meanwhile() or
+              desk.has_ended() or desk.is_let_in() and (BEFORE.search(desk.said()) or not self.room.of_desk(self.number)))
         found = BEFORE.search(desk.said())
         if found and found[1] == line and not (shown and shown[-1][0] == line):
             return found[2]

@@ -1,14 +1,13 @@
-"""The processes that the tests of the scripts start, and how tests wait for them: at most PATIENCE seconds, but only SHORTLY for IN_VAIN,
-which a mistake prevents."""
+"""The processes of tests of the scripts, and how tests wait: PATIENCE seconds, but SHORTLY for IN_VAIN, which a mistake prevents."""
 import contextlib
 import os
 import pathlib
 import re
 import select
 import signal
-import subprocess
 import threading
 import time
+from subprocess import PIPE, Popen
 
 SECONDS = int(os.environ.get("PATIENCE", "300"))  # a busy machine can take long
 IN_VAIN, SHORTLY = os.environ.get("IN_VAIN", ""), 15
@@ -59,8 +58,7 @@ class Process:
     """A process with pipes, whose output is read as it comes."""
 
     def __init__(self, words, environment):
-        streams = dict.fromkeys(("stdin", "stdout", "stderr"), subprocess.PIPE)
-        self.process = subprocess.Popen([str(it) for it in words], env={**os.environ, **environment}, bufsize=0, **streams)
+        self.process = Popen([*map(str, words)], env={**os.environ, **environment}, bufsize=0, stdin=PIPE, stdout=PIPE, stderr=PIPE)
         self.out, self.error = [], []
         self.readers = [threading.Thread(target=self.read, args=it, daemon=True)
                         for it in ((self.process.stdout, self.out), (self.process.stderr, self.error))]

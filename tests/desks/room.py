@@ -1,5 +1,4 @@
-"""A room for an office and its desks: a folder with a set-up, a disk and an office's folder, and the processes at work there. DESKS names
-another folder of the scripts."""
+"""A room for an office and its desks: a folder with a set-up and a disk. DESKS names another folder of the scripts."""
 import contextlib
 import itertools
 import os
@@ -19,7 +18,7 @@ from processes import SECONDS, Desk, Process, command_of, has_input, stand_still
 SCRIPTS = pathlib.Path(os.environ.get("DESKS", TOP / "desks"))
 
 
-class Room:
+class Room(contextlib.AbstractContextManager):
     def __init__(self, setup=REHEARSAL.read_text()):
         self.path = pathlib.Path(tempfile.mkdtemp(prefix="desks-", dir=self.shared()))
         self.scripts, self.environment = SCRIPTS, {"ZHCOUNT": str(PROGRAM)}
@@ -33,12 +32,8 @@ class Room:
         """A folder in memory, where a sync costs nothing: a kill is not a power failure."""
         return "/dev/shm" if os.access("/dev/shm", os.W_OK) else tempfile.gettempdir()
 
-    def __enter__(self):
-        return self
-
     def __exit__(self, *_):
         for it in self.processes:
-            it.kill(signal.SIGCONT)
             it.kill()
         shutil.rmtree(self.path, ignore_errors=True)
 
@@ -95,8 +90,8 @@ class Room:
 
     # The office
 
-    def process(self, kind, words):
-        process = kind(words, self.environment)
+    def process(self, kind, words, **environment):
+        process = kind(words, {**self.environment, **environment})
         self.processes.append(process)
         return process
 

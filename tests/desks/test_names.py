@@ -57,10 +57,9 @@ def test_answer_after_a_stop(room):
 
 def test_many_municipalities():
     """before the final seats the desk names nine municipalities, first those with something wrong, and counts the others"""
-    head, municipality = REHEARSAL.read_text().split("[[municipality]]")[:2]
-    group = REHEARSAL.read_text().split("[[group]]")[1]
-    many = [municipality.replace("N", f"N{it}").replace("= 1", f"= {max(1, it - 11)}") for it in range(1, 15)]
-    with running(QuietRoom(setup="[[municipality]]".join([head, *many]) + f"[[group]]{group}")) as room:
+    many = "".join(f'[[municipality]]\nname = "N{it}"\nconstituency = 1\n' for it in range(1, 15))
+    setup = f'version = 1\nhouse = 10\n[[constituency]]\nname = "C"\npersons = 500\n{many}[[group]]\nname = "A"\nstands = [1]\n'
+    with running(QuietRoom(setup=setup)) as room:
         room.ask(1, *(f"return {it} 1 1 {it}" for it in range(1, 15) if it != 12))
         talk(room, 1, "municipality 12, N12: 1 of 1 returns missing",
              *(f"municipality {it}, N{it}: 1 entered by one desk alone" for it in range(1, 9)),
@@ -75,8 +74,7 @@ def closed(room):
 
 
 def test_totals(new_room):
-    """votes that differ from the stated total are named at the closing and before the final seats. The file is read anew each time. A desk
-    says what is wrong with it, and uses the rows that are right"""
+    """before a closing or the final seats a desk names votes that differ from a stated total, and faults of the file as it is by then"""
     wrong, remark = "municipality 1, N: 2395 votes in all, and its own record states 1000", "the totals of their own records: "
     totals = new_room.path / "totals"
     new_room.start("--totals", totals)

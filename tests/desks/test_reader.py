@@ -70,13 +70,10 @@ def empty():
 def widest():
     """Every return of the widest set-up, in batches of 1,000 rows; then as many returns as lead to a switch."""
     rows = [f"row {m} {g} 1 {10**9 - m * g}" for m in range(1, 513) for g in range(1, 33)]
-    batches = []
-    for begin in range(0, len(rows), 1000):
-        batches += ["open", *rows[begin:begin + 1000], "commit"]
+    batches = [it for begin in range(0, len(rows), 1000) for it in ("open", *rows[begin:begin + 1000], "commit")]
     with Room(WIDEST) as room:
         for title, lines in ("full", batches), ("after a switch", [f"withdraw 512 32 {number}" for number in range(2, 402)]):
-            answers = room.by_hand(*lines)
-            assert re.findall(r"1 (?!stored|held).*", answers) == [], "the answers that do not store"
+            assert re.findall(r"1 (?!stored|held).*", room.by_hand(*lines)) == [], "the answers that do not store"
             yield f"the widest set-up, {title}", room.disk.read_bytes()
 
 
@@ -89,21 +86,15 @@ def damaged():
 
 
 def records():
-    """Records at random, in both formats, in either slot."""
+    """Records at random, in both formats."""
     chance, empty_disk = random.Random(SEED), fresh(REHEARSAL)
     for count in range(ROUNDS):
         of_format = 1 + count % 2
         wanted = disks.records_of(chance, of_format, chance.randint(1, 20))
         if chance.randrange(20) == 0:
             wanted[-1] = wanted[-1][:-1] + b"\0" * chance.randrange(3)
-        image = put(empty_disk, FORMAT_BYTE, b"\0" if of_format == 1 else b"\2")
-        if chance.randrange(2):
-            image = put(image, PLACES["slot2"], image[PLACES["slot1"]:PLACES["slot2"]])
-            image = put(image, PLACES["slot2.generation"], (2).to_bytes(8, "big"))
-            image = put(image, PLACES["journal2"], disks.journal_of(wanted))
-        else:
-            image = put(image, PLACES["journal1"], disks.journal_of(wanted))
-        yield f"records {count}, {[it.hex() for it in wanted]}", image
+        disk = put(empty_disk, FORMAT_BYTE, b"\0" if of_format == 1 else b"\2")
+        yield f"records {count}, {[it.hex() for it in wanted]}", put(disk, PLACES["journal1"], disks.journal_of(wanted))
 
 
 def odd():
@@ -121,8 +112,7 @@ def odd():
 # The outcomes that the disks of each source must have.
 DISKS = {
     disks.kept_images: {"exported", "disk size"}, empty: {"exported", "disk blank", "disk size"}, widest: {"exported"},
-    damaged: {"exported", "disk blank", "disk damaged", "disk differs"}, records: {"exported", "disk damaged"},
-    odd: {"exported", "disk blank", "disk damaged", "disk differs"},
+    records: {"exported", "disk damaged"}, **dict.fromkeys((damaged, odd), {"exported", "disk blank", "disk damaged", "disk differs"}),
 }
 
 
@@ -148,7 +138,6 @@ def test_kinds_of_files(tmp_path):
     (tmp_path / "other").symlink_to("disk")
     (tmp_path / "disk").chmod(0o400)
     assert said(sys.executable, READER, tmp_path / "other") == (0, "", b"municipality,list,number,votes\n"), "what is read through a link"
-    assert sorted(os.listdir(tmp_path)) == ["disk", "link", "other", "pipe", "setup"], "the folder"
 
 
 @pytest.mark.parametrize("words, status, fault", [

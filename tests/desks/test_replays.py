@@ -15,8 +15,7 @@ STRANGE = REHEARSAL.read_text().replace('"Nord"', '"No\u2028rd"').replace('"Mitt
 
 @pytest.fixture
 def written():
-    """A night of two starts without a difference. Its names have characters that some take for line ends, and its first end has noted
-    nothing of the disk, as if the office could not look at it."""
+    """A night of two starts. Its names have characters that some take for line ends, and its first end notes nothing of the disk."""
     with Night(setup=STRANGE) as night:
         night.begin(LINES)
         night.begin(["2 return 2 2 1 330", "3 show 1 1", "1 last 1 1", "1 close 1"])
@@ -26,8 +25,7 @@ def written():
 
 
 def test_the_same(written):
-    """replay and rebuild say what they have compared, and the sum of the last event. If the program is another one they say that once, with
-    both sums: it is not a difference"""
+    """replay and rebuild say what they have compared, and once that the program is another one, which is not a difference"""
     program, other = written.log.events[1].facts()["program"], "12" * 32
     changed = f"zhcount is another one here: its SHA-256 is {program}, and in start 1 it was {other}\n"
     for log, text in (written.log, ""), (written.log.edited("start", program, program, other), changed):
@@ -41,7 +39,6 @@ def test_a_difference(written):
     shown = next(it.number for it in written.log.events if it.text == "shows 1 525")
     for kind, within, old, new, wanted in [
             ("answer", "stored 6", "6", "9", "return 2 2 1 330: noted is 'stored 9', and here 'stored 6'"),
-            ("answer", "stored 4", "stored 4", "stored 5", "withdraw 3 1 2: noted is 'stored 5', and here 'stored 4'"),
             ("answer", "shows", "shows 1 525", "none", f"not the same: event {shown}, desk 3: show 1 1: noted is 'none', and here"),
             ("answer", "sheet", "sheet provisional 3 ", "sheet provisional 3 1", "sheet: noted is 'sheet provisional 3 1"),
             ("line", "return 1 1 1 525", "525", "526", "sheet: noted is 'sheet provisional 3 "),
@@ -79,8 +76,7 @@ def test_nothing_to_run(night):
 
 
 def test_stops(night):
-    """lines that a stop kept or lost have their answer in the next start, also in an open batch. One without an answer is left out, as
-    replay and rebuild say, and an office that goes on with the new disk answers it"""
+    """lines that a stop kept or lost are answered in the next start; the last one has no answer, and is left out until an office goes on"""
     night.begin(["1 open", "1 row 1 1 1 525", "2 open", "2 row 2 1 1 240", "2 row 2 2 1 330"], is_stored=True)
     night.begin(["1 row 1 2 1 300", "2 commit", "1 commit"], is_stored=True)
     night.begin(["3 sheet", "1 open", "1 row 1 3 1 90", "1 drop", "1 close 3"], is_stored=False)
@@ -97,8 +93,7 @@ def test_stops(night):
 
 
 def test_by_hand(night):
-    """commands that came by hand, also withdrawals and closings, are in an image, which must be that of the log. A rebuild goes on from the
-    last one, and says so; a replay begins with the first event"""
+    """commands that came by hand are in an image; a rebuild goes on from the last one, and says so; a replay begins with the first event"""
     night.load("1,1,1,525", "1,2,1,300")
     night.zhcount_office("--take", night.setup, night.disk, night.folder)
     night.begin(["1 return 2 1 1 240", "1 return 1 1 2 530"], is_stored=False)

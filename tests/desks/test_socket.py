@@ -43,19 +43,17 @@ def line_of(turn, text):
 
 HELLO = b'{"desk": 3}\n'  # which has sent one line
 NO_LINES = [b"\n", b"garbage\n", b"[1]\n", b"[" * 995 + b"\n", b'{"a":' * 180 + b"\n", b"\0" * 500 + b"\n", b"\xff\xfe\n", b"x" * 1000000,
-            b'{"turn": 2}\n', line_of("2.0", "show 1 1"), line_of(3, "show 1 1"), line_of(1, "show 1 1"),
-            line_of(0, "show 1 1"), line_of(-1, "show 1 1"), line_of("1e999", "show 1 1"), line_of("9" * 900, "show 1 1"),
-            b'{"turn": 2, "line": 5}\n', line_of(2, "show 1 1\\n2 close 1"), line_of(2, "show 1 1\\\\x0a2 close 1"), line_of(2, "\\\\x41"),
-            line_of(2, "\\\\x5C"), line_of(2, "\\ud800"), b'{"turn": 2, "line": "\xc3\xa9"}\n', line_of(2, "9" * 122),
-            line_of(2, "\\\\x00" * 122), b'{"desk": 4}\n', line_of(2, "show 1 1") + line_of(3, "show 1 1"), line_of(2, "show 1 1") + b"{"]
+            b'{"desk": 4}\n', b'{"turn": 2}\n', b'{"turn": 2, "line": 5}\n', b'{"turn": 2, "line": "\xc3\xa9"}\n',
+            *(line_of(turn, "show 1 1") for turn in ("2.0", 3, 1, 0, -1, "1e999", "9" * 900)),
+            *(line_of(2, text) for text in (r"show 1 1\n2 close 1", r"show 1 1\\x0a2 close 1", r"\\x41", r"\\x5C", r"\ud800", "9" * 122)),
+            line_of(2, r"\\x00" * 122), line_of(2, "show 1 1") + line_of(3, "show 1 1"), line_of(2, "show 1 1") + b"{"]
 GREETING = {"log", "start", "turn", "line", "answer", "news", "rows", "batch", "closed", "witness"}
-NO_DESKS = [b'{"desk": 0}\n', b'{"desk": 9}\n', b'{"desk": "3"}\n', b'{"desk": true}\n', b'{"desk": 3.0}\n', b"{}\n", b"null\n", b"\0\n",
-            b'{"desk": 2}\n', b"x" * 2000, line_of(2, "show 1 1")]
+NO_DESKS = [*(b'{"desk": %s}\n' % it for it in (b"0", b"9", b'"3"', b"true", b"3.0", b"2")), b"{}\n", b"null\n", b"\0\n", b"x" * 2000,
+            line_of(2, "show 1 1")]
 
 
 def test_garbage(room):
-    """only a line in its one spelling, alone, with the next turn, also if that comes after those of an earlier start, is taken. Anything
-    else ends its connection alone and is not noted, and the office's own log has each text once"""
+    """only a line in its one spelling, alone, with the next turn is taken; anything else ends its connection alone, and is not noted"""
     room.ask(3, "show 3 3")
     room.restart()
     good = room.desk(2).talk("return 1 1 1 525 -> stored 1")
@@ -76,7 +74,6 @@ def test_garbage(room):
     for _ in range(300):
         at_socket(room, HELLO, line_of(7, "x" * 100))
     assert len(room.office.error) < said + 20, f"few lines: {len(room.office.error) - said}"
-    assert room.of_desk(3) == [("show 3 3", "none")], "the lines of desk 3"
     assert room.ask(3, "show 1 1", "show 1 2").out == ["shows 1 525", "none"], "its next ones"
     good.talk("show 1 1 -> shows 1 525").end()
     room.check({2: ["return 1 1 1 525", "show 1 1"], 3: ["show 3 3", "show 1 1", "show 1 2"]})
@@ -98,8 +95,6 @@ def test_nobody_is_disturbed(room):
     good.talk(*(f"return 1 1 {number} 525 -> stored {number}" for number in range(1, 31)))
     assert time.monotonic() - began < 150, f"the seconds that 30 answers took: {time.monotonic() - began}"
     assert room.ask(4, "show 1 1").out == ["shows 30 525"], "another one is let in"
-    for it in (*idle, flood):
-        it.close()
     stopped.kill(signal.SIGCONT)
     assert stopped.answer() == "none", "the stopped one goes on"
     room.check()
@@ -117,7 +112,6 @@ def test_long_sheet_that_waits(new_room):
     assert new_room.ask(2, "show 1 1").out == ["shows 1 90"], "another desk's answer"
     desk.kill(signal.SIGCONT)
     assert desk.answer("sheet").split("\n")[1].count("X") == 10 << 15, "the length of its second line"
-    new_room.stop()
 
 
 def test_long_path(new_room):
@@ -148,8 +142,7 @@ def test_line_that_was_not_sent(room):
 
 @pytest.mark.parametrize("change, others, shown", [("another log", 2, "none"), ("older copy", 0, "none"), ("other lines", 1, "shows 1 90")])
 def test_connect_again(room, change, others, shown):
-    """a desk that waits, for an answer or for a line, ends if its office has another log, even one with as many lines, an older copy of it,
-    or lines of another connection. It says which line has no answer, and the next connection begins anew"""
+    """a desk ends if its office has another log, an older one, or lines of another connection, and says which line has no answer"""
     desk = room.desk(3).talk("show 1 1 -> none")
     room.stop()
     copied = (room.folder / "night.db").read_bytes()
@@ -182,8 +175,7 @@ time = SimpleNamespace(strftime=real.strftime, monotonic=lambda: float(open({!r}
 
 @pytest.mark.parametrize("has_typed", [False, True], ids=["idle", "stopped"])
 def test_second_connection(new_room, has_typed):
-    """a second connection with the number of another one is refused, and learns who has the desk since when, unless that one was silent for a
-    while. Then it takes its place: the first ends, and gives up a line that it has not sent. A desk whose answers nobody reads ends"""
+    """a second connection of a desk is refused and learns who has it since when; if the first one was silent for a while, that one ends"""
     room, clock = new_room, new_room.path / "clock"  # by which an office knows how long a desk is silent
     clock.write_text("0")
     room.edit_script("zhcount_connections.py", "^import time$", CLOCK.format(str(clock)))

@@ -254,7 +254,7 @@ def test_power_is_cut(is_all):
 
     def go_on_after(image, done, title, typed):
         with ApartRoom() as other:
-            restore(image, other, room.path)
+            restore(image, other)
             has_its_end(Night(other, done, typed), lambda: title)
 
     with WatchedRoom(before) as room:
