@@ -11,19 +11,17 @@ import tempfile
 
 import pytest
 
-import canton as cantons
-import disks
-import places
+from canton import Canton, Chance
 from cases import coded
-from disks import DISK_BYTES, FORMAT_BYTE, PLACES, put
-from places import PROGRAM
+from disks import DISK_BYTES, FORMAT_BYTE, PLACES, journal_of, kept_images, named_damages, put, records_of, setup_of
+from places import PROGRAM, REHEARSAL, ZURICH
 from room import SCRIPTS, Room
 
 READER = SCRIPTS / "zhcount-read"
-REHEARSAL = places.REHEARSAL.read_text()
+SETUP = REHEARSAL.read_text()
 SEED = int(os.environ.get("SEED", "20270404"))
 ROUNDS = 300  # disks at random
-CANTON = cantons.Canton(cantons.Chance(SEED)).setup()  # in which some lists stand in some constituencies alone
+CANTON = Canton(Chance(SEED)).setup()  # in which some lists stand in some constituencies alone
 WIDEST = "\n".join(["version = 1", "house = 400", *(f'[[constituency]]\nname = "{it:040}"\npersons = 1' for it in range(32)),
                     *(f'[[municipality]]\nname = "{it:040}"\nconstituency = {it % 32 + 1}' for it in range(512)),
                     *(f'[[group]]\nname = "{it:040}"\nstands = {list(range(1, 33))}' for it in range(32))])
@@ -35,14 +33,14 @@ def said(*words):
     return ran.returncode, re.sub(rb"zhcount(?:-read)?: (\w+ ?\w*).*\n\Z", rb"\1", ran.stderr).decode(), ran.stdout
 
 
-def compare(title, disk, setup=REHEARSAL):
+def compare(title, disk, setup=SETUP):
     """Both read the disk, the program with the set-up that its bytes spell, or else with this one. The fault, or that it is exported."""
     with tempfile.TemporaryDirectory() as room:
         path, place = pathlib.Path(room, "disk"), pathlib.Path(room, "setup.toml")
         path.write_bytes(disk)
         found = said(sys.executable, READER, path)
         assert path.read_bytes() == disk, f"{title}: the file"
-        for text in filter(None, (disks.setup_of(disk), setup)):
+        for text in filter(None, (setup_of(disk), setup)):
             place.write_text(text)
             wanted = said(PROGRAM, "export", "--setup", place, "--disk", path)
             if not wanted[1].startswith("setup "):
@@ -60,7 +58,7 @@ def fresh(setup):
 
 def empty():
     """Fresh disks, and files that are not formatted."""
-    for place, setup in enumerate([REHEARSAL, WIDEST, CANTON, (places.ZURICH / "setup.toml").read_text()]):
+    for place, setup in enumerate([SETUP, WIDEST, CANTON, (ZURICH / "setup.toml").read_text()]):
         yield f"the fresh disk {place}", fresh(setup), setup
     yield "zeros", bytes(DISK_BYTES)
     for length in (0, 1, DISK_BYTES - 1, DISK_BYTES + 1):
@@ -79,27 +77,27 @@ def widest():
 
 def damaged():
     """Each damage that the cases name, on disks of both formats and with both slots."""
-    images = dict(disks.kept_images())
-    bases = {"fresh": fresh(REHEARSAL), **{it: images[f"kept_images.case: {it}.disk"] for it in ("few", "few-2", "kinds", "both")}}
-    for (base, disk), (title, (place, data)) in itertools.product(bases.items(), disks.named_damages().items()):
+    images = dict(kept_images())
+    bases = {"fresh": fresh(SETUP), **{it: images[f"kept_images.case: {it}.disk"] for it in ("few", "few-2", "kinds", "both")}}
+    for (base, disk), (title, (place, data)) in itertools.product(bases.items(), named_damages().items()):
         yield f"{base}, {title}", put(disk, place, data)
 
 
 def records():
     """Records at random, in both formats."""
-    chance, empty_disk = random.Random(SEED), fresh(REHEARSAL)
+    chance, empty_disk = random.Random(SEED), fresh(SETUP)
     for count in range(ROUNDS):
         of_format = 1 + count % 2
-        wanted = disks.records_of(chance, of_format, chance.randint(1, 20))
+        wanted = records_of(chance, of_format, chance.randint(1, 20))
         if chance.randrange(20) == 0:
             wanted[-1] = wanted[-1][:-1] + b"\0" * chance.randrange(3)
         disk = put(empty_disk, FORMAT_BYTE, b"\0" if of_format == 1 else b"\2")
-        yield f"records {count}, {[it.hex() for it in wanted]}", put(disk, PLACES["journal1"], disks.journal_of(wanted))
+        yield f"records {count}, {[it.hex() for it in wanted]}", put(disk, PLACES["journal1"], journal_of(wanted))
 
 
 def odd():
     """The disks of odd_disks.txt, and one with a row of a list that stands elsewhere."""
-    empty_disk = fresh(REHEARSAL)
+    empty_disk = fresh(SETUP)
     for line in re.findall("^[^#\n].*", pathlib.Path(__file__).with_name("odd_disks.txt").read_text(), re.M):
         (title, _, edits), disk = line.rpartition(": "), empty_disk
         for place, data in (it.split(" ", 1) for it in edits.split("; ")):
@@ -111,7 +109,7 @@ def odd():
 
 # The outcomes that the disks of each source must have.
 DISKS = {
-    disks.kept_images: {"exported", "disk size"}, empty: {"exported", "disk blank", "disk size"}, widest: {"exported"},
+    kept_images: {"exported", "disk size"}, empty: {"exported", "disk blank", "disk size"}, widest: {"exported"},
     records: {"exported", "disk damaged"}, **dict.fromkeys((damaged, odd), {"exported", "disk blank", "disk damaged", "disk differs"}),
 }
 
@@ -130,11 +128,11 @@ def test_kinds_of_files(tmp_path):
     """paths at which there is no disk, and a link to one that is only read"""
     os.mkfifo(tmp_path / "pipe")
     (tmp_path / "link").symlink_to("nothing")
-    (tmp_path / "setup").write_text(REHEARSAL)
+    (tmp_path / "setup").write_text(SETUP)
     for path in (tmp_path / it for it in (".", "pipe", "link", "none", "setup/disk", "/dev/null")):
         wanted = said(PROGRAM, "export", "--setup", tmp_path / "setup", "--disk", path)
         assert said(sys.executable, READER, path) == wanted, f"what is read at {path}"
-    (tmp_path / "disk").write_bytes(fresh(REHEARSAL))
+    (tmp_path / "disk").write_bytes(fresh(SETUP))
     (tmp_path / "other").symlink_to("disk")
     (tmp_path / "disk").chmod(0o400)
     assert said(sys.executable, READER, tmp_path / "other") == (0, "", b"municipality,list,number,votes\n"), "what is read through a link"
@@ -146,6 +144,6 @@ def test_kinds_of_files(tmp_path):
 ])
 def test_arguments_and_streams(tmp_path, words, status, fault):
     """wrong arguments, and a standard output that takes nothing"""
-    (tmp_path / "disk").write_bytes(fresh(REHEARSAL))
+    (tmp_path / "disk").write_bytes(fresh(SETUP))
     ran = subprocess.run(f"'{sys.executable}' '{READER}' {words}", shell=True, cwd=tmp_path, capture_output=True)
     assert (ran.returncode, ran.stdout, ran.stderr) == (status, b"", fault)
