@@ -1,13 +1,12 @@
-"""What an office puts into `now`, and a room whose office does so more often."""
+"""The files that an office puts into `now`, and a room whose office does so more often."""
 import contextlib
 import csv
 import io
 import os
-import pathlib
 import shutil
 
 from logs import events
-from processes import until
+from processes import command_of, until
 from room import Room
 
 RETURNS = ["return 1 1 1 525", "return 1 2 1 300", "return 1 3 1 175", "return 2 1 1 240", "return 2 2 1 330", "return 2 3 1 30",
@@ -17,14 +16,12 @@ NEVER = 3600  # seconds
 UNCONFIRMED = "municipality,list,number,votes,desk,municipality_name,list_name\n"
 # The files of `now`, each with the task of the program that writes it.
 FILES = {"status": "status", "missing": "status --missing", "implausible": "status --implausible", "held.csv": "export",
-         "votes.csv": "votes", "vote-groups.csv": "votes --of groups"}
-SEATS = {"seats": "seats --table", "seats.csv": "seats", "seat-groups.csv": "seats --of groups",
-         "seat-constituencies.csv": "seats --of constituencies"}
+         "votes.csv": "votes", "vote-groups.csv": "votes --of groups", "seats": "seats --table", "seats.csv": "seats",
+         "seat-groups.csv": "seats --of groups", "seat-constituencies.csv": "seats --of constituencies"}
 
 
 class QuickRoom(Room):
-    """A room whose office copies the disk more often, has more patience with a child, gives that as much of the processor as itself, and
-    says each text each time."""
+    """A room whose office copies the disk more often, with a child that has more time and usual priority, and repeats each text."""
 
     def __init__(self, every=0.2, priority=0, **more):
         super().__init__(**more)
@@ -33,11 +30,11 @@ class QuickRoom(Room):
             self.edit_script(f"zhcount_{file}.py", rf"^{name} = \S+", f"{name} = {value}")
 
     def on_copies(self, task):
-        """Has the program do this first, in bash, where it is asked about a copy."""
+        """Has the program first do this in bash when it is asked about a copy."""
         self.stands_in(f"case \"$*\" in */office/now-*/disk*) {task} ;; esac")
 
     def start_held(self):
-        """Starts an office whose program waits where it is asked about a copy, until `goes_on`. The processes that wait."""
+        """Starts an office whose program waits when it is asked about a copy, until `goes_on`. The processes that wait."""
         self.held.write_text("")
         self.on_copies(f"while [ -e '{self.held}' ]; do sleep 0.02; done")
         self.start()
@@ -47,34 +44,28 @@ class QuickRoom(Room):
         self.held.unlink()
 
     def is_patient(self):
-        """Has the office no end of patience with a child before the file is there that this gives, and then a second."""
+        """Gives the office endless patience with a child, until the file exists that this returns; then one second."""
         late = self.path / "late"
         added = f"lambda _, at: at + (1 if os.path.exists({str(late)!r}) else 10**6)"
         self.edit_script("zhcount_now.py", r"^LONGEST = \S+", f'LONGEST = type("Longest", (float,), {{"__radd__": {added}}})()')
         return late
 
     def child(self, word="-B"):
-        """The child process that writes the files of a copy, found by its flag -B; 0 if there is none."""
+        """The child process that writes the files of a copy, found by its flag -B, or 0."""
         return super().child(word)
 
     def working(self):
-        """The process of the child that is at work. (What the system says of the children of a process may lack one.)"""
+        """The child that is at work. (The system's list of the children of a process can lack one.)"""
         return until("a child", self.child)
 
     def left_over(self):
-        """The processes that ask a copy."""
+        """The processes that ask about a copy."""
         return [it for it in os.listdir("/proc") if it.isdigit() and os.fsencode(f"--disk\0{self.folder}/now-") in command_of(it)]
 
     def shows(self, commands):
-        """Waits until `now` is of so many commands, and no other copy is there, and gives it."""
+        """Waits until `now` has this number of commands and is the only copy. The copy."""
         until(lambda: f"now-{commands}: {self.office.said()}", lambda: names_of_now(self) == ["now", f"now-{commands}"])
         return (self.folder / "now").resolve()
-
-
-def command_of(pid):
-    with contextlib.suppress(OSError):
-        return pathlib.Path(f"/proc/{pid}/cmdline").read_bytes()
-    return b""
 
 
 def link_of(room):
@@ -88,49 +79,45 @@ def names_of_now(room):
     return sorted(it.name.rpartition("-")[0] or it.name for it in room.folder.iterdir() if it.name.startswith("now"))
 
 
-def model(room, lines, line="sheet"):
-    """What the program says of a disk with these lines: of each file of `now` the content, and of each of `publish`, without the page. The
-    seats are those of a sheet that this line asks for."""
-    disk = room.other_disk(*lines)
-    flags = ["--final"] if line == "final" else []
-    ran = {name: room.ran(*words.split(" "), disk=disk) for name, words in FILES.items()}
-    seats = {name: room.ran(*words.split(" "), *flags, disk=disk) for name, words in SEATS.items()}
-    files = {"sums": ran["status"].stderr, **{name: it.stdout for name, it in ran.items()}}
+def model(room, lines, line):
+    """The files of `now`, and those of `publish`, as the program writes them after these lines, with the seats that this line asks for."""
+    disk, flags = room.other_disk(*lines), ["--final"] if line == "final" else []
+    ran = {name: room.ran(*words.split(" "), *(flags if "seats" in words else []), disk=disk) for name, words in FILES.items()}
+    files = {"sums": ran["status"].stderr, **{name: it.stdout for name, it in ran.items() if it.returncode == 0}}
     published = {"setup.toml": room.setup.read_text()}
-    if seats["seats"].stdout:
-        files.update({name: it.stdout for name, it in seats.items()})
+    if "seats" in files:
         published["sheet.txt"] = room.zhcount("run", disk=disk, given=f"1 {line}\n")
     else:
-        files.update({name: seats["seats"].stderr for name in ("seats", "no-seats")})
+        files["seats"] = files["no-seats"] = ran["seats"].stderr
     published.update({name: text for name, text in files.items() if name.endswith(".csv") or name == "no-seats"})
     return files, published
 
 
-def compare(room, lines, unconfirmed=None, shown=1000):
-    """Waits for the `now` after these lines of desk 1, all stored. Its files are those of the lines; where it is not given, what
-    is unconfirmed is that too, and so many lines are in its table. The folder."""
-    now, (files, published) = room.shows(len(lines)), model(room, lines)
+def compare(room, lines, unconfirmed=None, shown=1000, line="sheet"):
+    """Waits for the `now` after these lines, and compares it with the model. By default all returns are unconfirmed, entered by desk 1."""
+    now, (files, published) = room.shows(len(lines)), model(room, lines, line)
     if unconfirmed is None:
-        rows = [it.split(" ")[1:] for it in lines]
+        rows = [it.split(" ")[1:] for it in lines if it.startswith("return ")]
         unconfirmed = "".join(f"{','.join(row)},1,{' NMW'[int(row[0])]},{' ABC'[int(row[1])]}\n" for row in rows)
-    wanted = {**files, "lines.csv": table_of_lines(room.folder, shown), "unconfirmed": UNCONFIRMED + unconfirmed}
-    compare_folder(now, wanted, ["disk", "publish"])
     compare_folder(now / "publish", published)
+    compare_folder(now, {**files, "lines.csv": table_of_lines(room.folder, shown), "unconfirmed": UNCONFIRMED + unconfirmed},
+                   ["disk", "publish"])
     copy = shutil.copyfile(now / "disk", room.path / "copy.disk")
     assert room.zhcount("export", disk=copy) == files["held.csv"], "the copy of the disk"
     return now
 
 
 def compare_folder(folder, wanted, others=()):
-    """The files of a folder are these, and others of which the content is not looked at."""
+    """The files of a folder are these, and others whose content is not compared."""
     for name, text in wanted.items():
         assert (folder / name).read_text() == text, f"{name} of {folder.name}"
     assert sorted(it.name for it in folder.iterdir()) == sorted([*wanted, *others]), f"nothing else is in {folder.name}"
 
 
 def table_of_lines(folder, shown=1000):
-    """What lines.csv has to have of the lines of a log that have an answer, up to so many."""
-    rows, start, lines, table = [["number", "at", "start", "desk", "turn", "line", "answer", "answered_at"]], 0, {}, io.StringIO()
+    """`lines.csv` as it follows from a log: its answered lines, up to this number."""
+    start, lines, table = 0, {}, io.StringIO()
+    rows = [["number", "at", "start", "desk", "turn", "line", "answer", "answered_at"]]
     for it in events(folder):
         start += it.kind == "start"
         if it.kind == "line":

@@ -1,22 +1,21 @@
-"""What the tests of the scripts say and wait for, and the processes that they start. PATIENCE says how many seconds a test waits for what
-has to happen; IN_VAIN what does not happen, by a mistake: for that it waits shortly."""
+"""The processes of tests of the scripts, and how tests wait: PATIENCE seconds, but SHORTLY for IN_VAIN, which a mistake prevents."""
 import contextlib
 import os
 import pathlib
 import re
 import select
 import signal
-import subprocess
 import threading
 import time
+from subprocess import PIPE, Popen
 
-SECONDS = int(os.environ.get("PATIENCE", "300"))  # a busy machine may take long
+SECONDS = int(os.environ.get("PATIENCE", "300"))  # a busy machine can take long
 IN_VAIN, SHORTLY = os.environ.get("IN_VAIN", ""), 15
-HAS_ENDED = "(it has ended)"  # what a desk gives as its answer that has none
+HAS_ENDED = "(it has ended)"  # in place of an answer
 
 
 def until(what, holds, seconds=SECONDS):
-    """Waits until something holds, and gives it. Where it does not, `what` says that, or what it says by then as a function."""
+    """Waits until something holds, and returns it. `what` is the text of the error if it never does, or a function that returns that."""
     begun = time.monotonic()
     while not (found := holds()):
         waited = time.monotonic() - begun
@@ -29,7 +28,7 @@ def until(what, holds, seconds=SECONDS):
 
 
 def stays(what, holds, seconds=0.5):
-    """Looks for so long whether something goes on holding."""
+    """Checks for this long that something goes on holding."""
     end = time.monotonic() + seconds
     while time.monotonic() < end:
         assert holds(), what
@@ -43,17 +42,23 @@ def stand_still(pid):
 
 
 def has_input(pid):
-    """Whether a process has something at its standard input, a pipe, that it has not read."""
+    """Whether the standard input of a process, a pipe, contains something that it has not read."""
     with open(os.open(f"/proc/{pid}/fd/0", os.O_RDONLY | os.O_NONBLOCK), "rb") as pipe:
         return select.select([pipe], [], [], 0)[0] != []
+
+
+def command_of(pid):
+    """The words of a process, each with a zero byte after it; b"" if it has ended."""
+    with contextlib.suppress(OSError):
+        return pathlib.Path(f"/proc/{pid}/cmdline").read_bytes()
+    return b""
 
 
 class Process:
     """A process with pipes, whose output is read as it comes."""
 
     def __init__(self, words, environment):
-        streams = dict.fromkeys(("stdin", "stdout", "stderr"), subprocess.PIPE)
-        self.process = subprocess.Popen([str(it) for it in words], env={**os.environ, **environment}, bufsize=0, **streams)
+        self.process = Popen([*map(str, words)], env={**os.environ, **environment}, bufsize=0, stdin=PIPE, stdout=PIPE, stderr=PIPE)
         self.out, self.error = [], []
         self.readers = [threading.Thread(target=self.read, args=it, daemon=True)
                         for it in ((self.process.stdout, self.out), (self.process.stderr, self.error))]
@@ -74,12 +79,12 @@ class Process:
         return "\n".join(self.error)
 
     def says(self, *texts):
-        """Waits until it has said all of this."""
+        """Waits until standard error contains all of these."""
         for text in texts:
             until(lambda: f"'{text}' is said: {self.said()}", lambda: text in self.said())
 
     def kill(self, number=signal.SIGKILL):
-        """Sends it a signal. After SIGKILL it waits for the end."""
+        """Sends a signal, and waits for the end after SIGKILL."""
         self.process.send_signal(number)
         if number == signal.SIGKILL:
             self.process.wait()
@@ -88,7 +93,7 @@ class Process:
         return self.process.poll() is not None
 
     def end(self, text=""):
-        """Closes its input, after this text, and waits for its end. Its status."""
+        """Closes the input after this text, and waits for the end. The status."""
         self.write(text)
         self.process.stdin.close()
         return self.wait()
@@ -96,11 +101,11 @@ class Process:
     def wait(self):
         status = self.process.wait(SECONDS)
         for it in self.readers:
-            it.join(30)  # longer where something that it has started has its streams
+            it.join(30)  # longer if another process has its streams
         return status
 
     def ends_with(self, status, who):
-        """It ends of itself, with this status; where it does not, what it said is said."""
+        """Waits until it ends of itself, with this status."""
         found = self.wait()
         assert found == status, f"the end of {who}: {self.said()}"
 
@@ -111,7 +116,7 @@ class Desk(Process):
     taken = 0  # lines of output
 
     def talk(self, *exchanges):
-        """Sends lines, each with the answer that it has to have: 'LINE -> ANSWER'. The desk."""
+        """Sends lines, each with the answer that it must get: 'LINE -> ANSWER'. The desk."""
         for line, wanted in (it.split(" -> ") for it in exchanges):
             assert self.send(line) == wanted, f"the answer to {line}"
         return self
@@ -121,7 +126,7 @@ class Desk(Process):
         return self.answer(line)
 
     def answer(self, line="", meanwhile=lambda: None):
-        """The next answer; of a sheet all its lines."""
+        """The next answer, which is all lines of a sheet. `meanwhile` is called again and again."""
         def whole():
             meanwhile()
             if self.has_ended():

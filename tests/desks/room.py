@@ -1,5 +1,4 @@
-"""A room for an office and its desks: a folder with a set-up and a disk, the processes in it, and what its log has to say. DESKS names
-another folder of the scripts."""
+"""A room for an office and its desks: a folder with a set-up and a disk. DESKS names another folder of the scripts."""
 import contextlib
 import itertools
 import os
@@ -14,14 +13,12 @@ import tempfile
 from counting import counted
 from logs import events
 from places import PROGRAM, REHEARSAL, TOP
-from processes import SECONDS, Desk, Process, has_input, stand_still, until
+from processes import SECONDS, Desk, Process, command_of, has_input, stand_still, until
 
 SCRIPTS = pathlib.Path(os.environ.get("DESKS", TOP / "desks"))
 
 
-class Room:
-    """A folder with a set-up, a disk and an office's folder."""
-
+class Room(contextlib.AbstractContextManager):
     def __init__(self, setup=REHEARSAL.read_text()):
         self.path = pathlib.Path(tempfile.mkdtemp(prefix="desks-", dir=self.shared()))
         self.scripts, self.environment = SCRIPTS, {"ZHCOUNT": str(PROGRAM)}
@@ -32,15 +29,11 @@ class Room:
 
     @staticmethod
     def shared():
-        """A folder in memory, where a sync costs nothing: a kill is no power failure."""
+        """A folder in memory, where a sync costs nothing: a kill is not a power failure."""
         return "/dev/shm" if os.access("/dev/shm", os.W_OK) else tempfile.gettempdir()
-
-    def __enter__(self):
-        return self
 
     def __exit__(self, *_):
         for it in self.processes:
-            it.kill(signal.SIGCONT)
             it.kill()
         shutil.rmtree(self.path, ignore_errors=True)
 
@@ -52,27 +45,20 @@ class Room:
                               text=True)
 
     def zhcount(self, task, *words, **more):
-        return self.ran(task, *words, **more).stdout
+        """The output of such a run, which must succeed."""
+        ran = self.ran(task, *words, **more)
+        assert ran.returncode == 0, f"zhcount {task}, which says {ran.stderr}"
+        return ran.stdout
 
-    def script(self, name, *words):
-        return [sys.executable, "-S", self.scripts / name, *words]  # no packages are looked for
+    def load(self, *rows):
+        """Loads a table by hand."""
+        path = self.path / "loaded.csv"
+        path.write_text("".join(f"{it}\n" for it in ["municipality,list,number,votes", *rows]))
+        return self.zhcount("load", "--csv", path)
 
-    def edit_script(self, name, pattern, text):
-        """Edits a script, from now on in a copy of all."""
-        if self.scripts != self.path / "scripts":
-            self.scripts = shutil.copytree(self.scripts, self.path / "scripts")
-        edit(self.scripts / name, pattern, text)
-
-    def stands_in(self, task):
-        """Has a stand-in for the program do this first, in bash."""
-        path = self.path / "stand-in"
-        path.write_text(f"#!/bin/bash\n{task}\nexec '{PROGRAM}' \"$@\"\n")
-        path.chmod(0o755)
-        self.environment["ZHCOUNT"] = str(path)
-
-    def edits_answers(self, edit):
-        """Has the answers of `run` edited on the way."""
-        self.stands_in(f"[ $1 = run ] && exec '{PROGRAM}' \"$@\" > >(exec sed -u '{edit}')")
+    def by_hand(self, *lines, disk=None):
+        """Types lines into `run` by hand. The answers."""
+        return self.zhcount("run", disk=disk, given="".join(f"1 {it}\n" for it in lines))
 
     def other_disk(self, *lines):
         """A disk of the same set-up with these lines, and its path."""
@@ -82,23 +68,30 @@ class Room:
         self.by_hand(*lines, disk=path)
         return path
 
-    def load(self, *rows):
-        """Loads a table by hand."""
-        path = self.path / "loaded.csv"
-        path.write_text("".join(f"{it}\n" for it in ["municipality,list,number,votes", *rows]))
-        found = self.ran("load", "--csv", path)
-        assert found.returncode == 0, f"the loading of {rows}, which says {found.stderr}"
-        return found.stdout
+    def script(self, name, *words):
+        return [sys.executable, "-S", self.scripts / name, *words]  # -S: Python looks for no packages
 
-    def by_hand(self, *lines, disk=None):
-        """Types lines into `run` by hand."""
-        ran = self.ran("run", disk=disk, given="".join(f"1 {it}\n" for it in lines))
-        assert ran.returncode == 0, f"a run by hand, which says {ran.stderr}"
+    def edit_script(self, name, pattern, text):
+        """Edits a script in a copy of all, which the room uses from now on."""
+        if self.scripts != self.path / "scripts":
+            self.scripts = shutil.copytree(self.scripts, self.path / "scripts")
+        edit(self.scripts / name, pattern, text)
+
+    def stands_in(self, task):
+        """Makes a stand-in for the program, which first does this in bash."""
+        path = self.path / "stand-in"
+        path.write_text(f"#!/bin/bash\n{task}\nexec '{PROGRAM}' \"$@\"\n")
+        path.chmod(0o755)
+        self.environment["ZHCOUNT"] = str(path)
+
+    def edits_answers(self, edit):
+        """Makes one that edits the answers of `run` with sed."""
+        self.stands_in(f"[ $1 = run ] && exec '{PROGRAM}' \"$@\" > >(exec sed -u '{edit}')")
 
     # The office
 
-    def process(self, kind, words):
-        process = kind(words, self.environment)
+    def process(self, kind, words, **environment):
+        process = kind(words, {**self.environment, **environment})
         self.processes.append(process)
         return process
 
@@ -118,7 +111,7 @@ class Room:
         until(lambda: f"the office serves, or ends: {self.office.said()}", lambda: self.serves() or self.office.has_ended())
 
     def refuses(self, *texts, status=3):
-        """The office does not start, but ends with this status, and says these texts."""
+        """The office does not start. It ends with this status and these texts."""
         self.start(is_awaited=False)
         self.await_start()
         assert not self.serves(), f"no start, but {texts}"
@@ -134,7 +127,7 @@ class Room:
         self.start()
 
     def ends(self, status, *texts):
-        """The office ends of itself, with this status, and has said this."""
+        """The office ends of itself, with this status and these texts."""
         self.office.ends_with(status, "the office")
         self.office.says(*texts)
         assert "Traceback" not in self.office.said(), f"no traceback: {self.office.said()}"
@@ -147,18 +140,14 @@ class Room:
         return []
 
     def child(self, word):
-        """The process below the office that has this word in its command; 0 where there is none."""
-        for it in self.children_of(self.office):
-            with contextlib.suppress(OSError):
-                if word in pathlib.Path(f"/proc/{it}/cmdline").read_bytes().decode().split("\0"):
-                    return it
-        return 0
+        """The process below the office that has this word in its command, or 0."""
+        return next((it for it in self.children_of(self.office) if os.fsencode(word) in command_of(it).split(b"\0")), 0)
 
     def run_of_office(self):
         return until("a run", lambda: self.child("run"))
 
     def zhcount_office(self, *words, status=0):
-        """What zhcount-office says with these arguments, and ends with this status."""
+        """The output of zhcount-office, which must end with this status."""
         ran = subprocess.run(self.script("zhcount-office", *words), env={**os.environ, **self.environment}, capture_output=True,
                              text=True, timeout=SECONDS)
         assert ran.returncode == status, f"the status of {words[0]}, which says {ran.stdout}{ran.stderr}"
@@ -180,18 +169,18 @@ class Room:
         return self.process(Desk, self.script("zhcount-desk", str(number), self.folder))
 
     def ask(self, number, *lines):
-        """What a desk shows that sends these lines, and what it says beside."""
+        """A desk that has sent these lines, and ended with `status`."""
         desk = self.desk(number)
         desk.status = desk.end("".join(f"{it}\n" for it in lines))
         return desk
 
     def note(self, desk, line):
-        """Types a line at a desk, which the office notes. Its answer is not awaited."""
+        """Types a line at a desk and waits until it is in the log, but not for its answer."""
         desk.write(f"{line}\n")
         until(f"{line} is noted", lambda: self.noted()[-1:] == [line])
 
     def unanswered(self, desk, line):
-        """Types a line that is noted and given, and that the run does not get to answer. The process of the run."""
+        """Types a line that is in the log, but which the run, whose process is returned, does not get to answer."""
         run_process = self.run_of_office()
         stand_still(run_process)
         self.note(desk, line)
@@ -199,14 +188,14 @@ class Room:
         return run_process
 
     def stops_at(self, desk, line, is_stored=False):
-        """Types a line which is noted and unanswered when the office is killed. Its run then stores it, or is killed too. The desk."""
+        """Kills the office while a line is in the log and unanswered. Its run then stores the line, or is killed too. The desk."""
         run_process = self.unanswered(desk, line)
         self.stop(signal.SIGKILL)
         os.kill(run_process, signal.SIGCONT if is_stored else signal.SIGKILL)
         until("the run has ended", lambda: not os.path.exists(f"/proc/{run_process}"))
         return desk
 
-    # What there is
+    # The log
 
     def events(self):
         return events(self.folder)
@@ -216,13 +205,12 @@ class Room:
         return [it.text for it in self.events() if it.kind == "line"]
 
     def of_desk(self, number):
-        """The lines of a desk in the log, each with its answer; None of one that has none."""
+        """The lines of a desk in the log, each with its answer, or None if it has none."""
         texts = [it.text for it in self.events() if it.desk == number]
         return list(itertools.zip_longest(texts[::2], texts[1::2]))
 
     def check(self, sent=()):
-        """Ends the office, if it runs: each line has one answer, which is that of the manual, the disk has what follows from the lines, and
-        a replay says the same."""
+        """Ends the office, if it runs. Each line has one answer, the right one by the manual; disk and log agree, and a replay says so."""
         if not self.office.has_ended():
             assert self.stop() == 0, f"the end of the office: {self.office.said()}"
         found = self.events()

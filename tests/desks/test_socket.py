@@ -1,5 +1,4 @@
-"""Tests of an office's socket: whatever comes over it, how it is reached, and connections: to an office that has another log by now, one
-alone for each desk, and their streams."""
+"""Tests of an office's socket: bytes of any kind, its path, several connections of one desk, an office with another log, and streams."""
 import contextlib
 import json
 import os
@@ -23,21 +22,18 @@ def connected(room):
 
 
 def at_socket(room, *sent, seconds=SECONDS):
-    """What the office answers to these bytes, of which each waits for the answer to those before, and whether it ends the connection."""
+    """What the office answers to these bytes, each sent after the answer to those before, and whether it ends the connection."""
     got = b""
-    with connected(room) as at:
+    with connected(room) as at, contextlib.suppress(BrokenPipeError, ConnectionResetError):  # it has ended, with bytes on their way
         at.settimeout(seconds)
         try:
             for it in sent:
-                with contextlib.suppress(BrokenPipeError, ConnectionResetError):
-                    at.sendall(it)
+                at.sendall(it)
                 got += at.recv(65536)
             while more := at.recv(65536):
                 got += more
         except TimeoutError:
             return got, False
-        except ConnectionResetError:  # what was on its way is gone
-            pass
     return got, True
 
 
@@ -47,19 +43,17 @@ def line_of(turn, text):
 
 HELLO = b'{"desk": 3}\n'  # which has sent one line
 NO_LINES = [b"\n", b"garbage\n", b"[1]\n", b"[" * 995 + b"\n", b'{"a":' * 180 + b"\n", b"\0" * 500 + b"\n", b"\xff\xfe\n", b"x" * 1000000,
-            b'{"turn": 2}\n', line_of("2.0", "show 1 1"), line_of(3, "show 1 1"), line_of(1, "show 1 1"),
-            line_of(0, "show 1 1"), line_of(-1, "show 1 1"), line_of("1e999", "show 1 1"), line_of("9" * 900, "show 1 1"),
-            b'{"turn": 2, "line": 5}\n', line_of(2, "show 1 1\\n2 close 1"), line_of(2, "show 1 1\\\\x0a2 close 1"), line_of(2, "\\\\x41"),
-            line_of(2, "\\\\x5C"), line_of(2, "\\ud800"), b'{"turn": 2, "line": "\xc3\xa9"}\n', line_of(2, "9" * 122),
-            line_of(2, "\\\\x00" * 122), b'{"desk": 4}\n', line_of(2, "show 1 1") + line_of(3, "show 1 1"), line_of(2, "show 1 1") + b"{"]
+            b'{"desk": 4}\n', b'{"turn": 2}\n', b'{"turn": 2, "line": 5}\n', b'{"turn": 2, "line": "\xc3\xa9"}\n',
+            *(line_of(turn, "show 1 1") for turn in ("2.0", 3, 1, 0, -1, "1e999", "9" * 900)),
+            *(line_of(2, text) for text in (r"show 1 1\n2 close 1", r"show 1 1\\x0a2 close 1", r"\\x41", r"\\x5C", r"\ud800", "9" * 122)),
+            line_of(2, r"\\x00" * 122), line_of(2, "show 1 1") + line_of(3, "show 1 1"), line_of(2, "show 1 1") + b"{"]
 GREETING = {"log", "start", "turn", "line", "answer", "news", "rows", "batch", "closed", "witness"}
-NO_DESKS = [b'{"desk": 0}\n', b'{"desk": 9}\n', b'{"desk": "3"}\n', b'{"desk": true}\n', b'{"desk": 3.0}\n', b"{}\n", b"null\n", b"\0\n",
-            b'{"desk": 2}\n', b"x" * 2000, line_of(2, "show 1 1")]
+NO_DESKS = [*(b'{"desk": %s}\n' % it for it in (b"0", b"9", b'"3"', b"true", b"3.0", b"2")), b"{}\n", b"null\n", b"\0\n", b"x" * 2000,
+            line_of(2, "show 1 1")]
 
 
 def test_garbage(room):
-    """only a line in its one spelling, alone, with the turn that is the next, also after those of a start before, is taken; whatever else
-    comes ends that connection alone, is not noted, and the office's own log has each text once"""
+    """only a line in its one spelling, alone, with the next turn is taken; anything else ends its connection alone, and is not noted"""
     room.ask(3, "show 3 3")
     room.restart()
     good = room.desk(2).talk("return 1 1 1 525 -> stored 1")
@@ -80,7 +74,6 @@ def test_garbage(room):
     for _ in range(300):
         at_socket(room, HELLO, line_of(7, "x" * 100))
     assert len(room.office.error) < said + 20, f"few lines: {len(room.office.error) - said}"
-    assert room.of_desk(3) == [("show 3 3", "none")], "the lines of desk 3"
     assert room.ask(3, "show 1 1", "show 1 2").out == ["shows 1 525", "none"], "its next ones"
     good.talk("show 1 1 -> shows 1 525").end()
     room.check({2: ["return 1 1 1 525", "show 1 1"], 3: ["show 3 3", "show 1 1", "show 1 2"]})
@@ -102,15 +95,13 @@ def test_nobody_is_disturbed(room):
     good.talk(*(f"return 1 1 {number} 525 -> stored {number}" for number in range(1, 31)))
     assert time.monotonic() - began < 150, f"the seconds that 30 answers took: {time.monotonic() - began}"
     assert room.ask(4, "show 1 1").out == ["shows 30 525"], "another one is let in"
-    for it in (*idle, flood):
-        it.close()
     stopped.kill(signal.SIGCONT)
     assert stopped.answer() == "none", "the stopped one goes on"
     room.check()
 
 
 def test_long_sheet_that_waits(new_room):
-    """a desk that reads a sheet late that has more bytes than the socket takes at once shows all of it, and no other desk waits for that"""
+    """a desk that reads a sheet late, with more bytes than the socket takes at once, shows all of it, and no other desk waits for that"""
     new_room.edits_answers("/^house/{s/^/XXXXXXXXXX/;" + "s/X*/&&/;" * 15 + "}")
     new_room.start()
     desk = new_room.desk(1).talk(*(f"return {municipality} 1 1 90 -> stored {municipality}" for municipality in (1, 2, 3)))
@@ -121,11 +112,10 @@ def test_long_sheet_that_waits(new_room):
     assert new_room.ask(2, "show 1 1").out == ["shows 1 90"], "another desk's answer"
     desk.kill(signal.SIGCONT)
     assert desk.answer("sheet").split("\n")[1].count("X") == 10 << 15, "the length of its second line"
-    new_room.stop()
 
 
 def test_long_path(new_room):
-    """a folder whose path is longer than a socket's may be has its socket, whoever names it how, also after a stop"""
+    """a folder whose path is longer than that of a socket can be has its socket, by each of its names, also after a stop"""
     new_room.folder = new_room.path / ("long" * 30) / ("longer" * 20)
     new_room.folder.parent.mkdir()
     new_room.start()
@@ -138,7 +128,7 @@ def test_long_path(new_room):
 
 
 def test_line_that_was_not_sent(room):
-    """a desk gives up a line that it has not sent where another connection has its turn: that one's answer is not shown"""
+    """a desk gives up a line that it has not sent if another connection has its turn, and does not show the answer to that one"""
     desk = room.desk(3).talk("show 1 1 -> none")
     stand_still(desk.process.pid)
     desk.write("close 1\n")
@@ -152,8 +142,7 @@ def test_line_that_was_not_sent(room):
 
 @pytest.mark.parametrize("change, others, shown", [("another log", 2, "none"), ("older copy", 0, "none"), ("other lines", 1, "shows 1 90")])
 def test_connect_again(room, change, others, shown):
-    """a desk that waits for an answer, or for a line, ends when its office has another log, though with as many lines, an older copy of it,
-    or lines of another connection, and says what has no answer, which is not sent; the next connection begins anew"""
+    """a desk ends if its office has another log, an older one, or lines of another connection, and says which line has no answer"""
     desk = room.desk(3).talk("show 1 1 -> none")
     room.stop()
     copied = (room.folder / "night.db").read_bytes()
@@ -169,8 +158,7 @@ def test_connect_again(room, change, others, shown):
         (room.folder / "night.db").write_bytes(copied)
         (room.folder / "night.db-wal").unlink()
     room.start()
-    if others:
-        assert room.ask(3, *["show 1 1"] * others).out == ["none"] * others, "another connection"
+    assert room.ask(3, *["show 1 1"] * others).out == ["none"] * others, "another connection"
     desk.kill(signal.SIGCONT)
     for it in [desk] if change == "other lines" else [desk, is_idle]:
         assert it.wait() == 1, "its end"
@@ -187,9 +175,7 @@ time = SimpleNamespace(strftime=real.strftime, monotonic=lambda: float(open({!r}
 
 @pytest.mark.parametrize("has_typed", [False, True], ids=["idle", "stopped"])
 def test_second_connection(new_room, has_typed):
-    """of two connections with one number the second is refused, and told who has the desk since when, as long as the first was heard of a
-    moment ago. One that is silent is taken over at once, ends, and its line is in its place; one that stands still meanwhile gives up the
-    line that it has not sent. A desk whose answers nobody reads ends, and another one is let in"""
+    """a second connection of a desk is refused and learns who has it since when; if the first one was silent for a while, that one ends"""
     room, clock = new_room, new_room.path / "clock"  # by which an office knows how long a desk is silent
     clock.write_text("0")
     room.edit_script("zhcount_connections.py", "^import time$", CLOCK.format(str(clock)))
@@ -220,7 +206,7 @@ def test_second_connection(new_room, has_typed):
 
 
 def test_closed_streams(room):
-    """the log never takes the place of standard input, output or error; where nobody reads what is said each line is answered"""
+    """the log never takes the place of a standard stream that is closed; each line is answered even if nobody reads the texts beside"""
     room.ask(3, "return 1 1 1 525")
     pipe = os.pipe2(os.O_NONBLOCK)
     os.write(pipe[1], b"x" * 65536)  # as much as it takes

@@ -227,7 +227,7 @@ def test_power_is_cut(is_all):
     def go_on_after(number):
         (image, done), (_, title) = found[number - 1]
         with ApartRoom() as other:
-            restore(image, other, room.path)
+            restore(image, other)
             Night(other, done).run(lambda: title)
 
     each([kind for kind, _ in cuts.values()], is_all, go_on_after)

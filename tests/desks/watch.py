@@ -1,7 +1,5 @@
-"""A room whose processes ask before each call that changes something in it, or that sends something (watched.c), so that a test can stop
-them there, let the call fail, or see what a power cut at that moment would leave."""
+"""A room whose processes ask (watched.c) before each call that changes or sends something: a test can stop them there, or let it fail."""
 import contextlib
-import dataclasses
 import functools
 import os
 import pathlib
@@ -12,19 +10,19 @@ import stat
 import subprocess
 import tempfile
 import threading
+from typing import NamedTuple
 
 from processes import Desk
 from quiet import QuietRoom, patient_scripts
 
-HERE = pathlib.Path(__file__).resolve().parent
 SECTOR = 512  # bytes that a device writes whole or not at all
 
 
 @functools.lru_cache(maxsize=None)
 def library():
-    """The folder with what is preloaded, and with the sockets of rooms, which goes with the tests."""
-    folder = tempfile.TemporaryDirectory(prefix="watched-")
-    subprocess.run(["cc", "-shared", "-fPIC", "-O1", "-o", f"{folder.name}/watched.so", HERE / "watched.c", "-ldl"], check=True)
+    """The folder of the library that is preloaded and of the sockets of rooms, which exists as long as the tests run."""
+    folder, source = tempfile.TemporaryDirectory(prefix="watched-"), pathlib.Path(__file__).with_name("watched.c")
+    subprocess.run(["cc", "-shared", "-fPIC", "-O1", "-o", f"{folder.name}/watched.so", source, "-ldl"], check=True)
     return folder
 
 
@@ -38,13 +36,12 @@ class ApartRoom(QuietRoom):
         made.rename(self.disk)
 
 
-@dataclasses.dataclass(frozen=True)
-class Call:
+class Call(NamedTuple):
     """A call that a process is about to make."""
     pid: int
-    who: str  # office, witness, or desk and its number; what an office has started else is called as it is
-    name: str  # open, write, truncate, sync, chmod, make, unlink, rename, link; look, that changes nothing; send, to a pipe or a socket
-    path: str  # of a file; or what it is sent to: pipe, socket or shown, which is standard output
+    who: str  # office, witness, or desk and its number; other processes that an office has started have its name
+    name: str  # open, write, truncate, sync, chmod, make, unlink, rename, link; look, which changes nothing; send, to a pipe or socket
+    path: str  # of a file; or pipe or socket, or shown for standard output
 
     @property
     def file(self):
@@ -52,8 +49,8 @@ class Call:
 
 
 class WatchedRoom(ApartRoom):
-    """A room whose office, desks and witness are watched: `before` hears of each call, while the process waits, unless that kills it. It
-    gives the number of the fault with which the call fails, or nothing."""
+    """A room whose office, desks and witness are watched. `before` gets each call while the process waits, and kills it, or returns the
+    number of the fault with which the call fails, or nothing."""
 
     def __init__(self, before, scripts=None):
         super().__init__()
@@ -91,8 +88,7 @@ class WatchedRoom(ApartRoom):
         watched = {"LD_PRELOAD": f"{library().name}/watched.so", "WATCHED": str(self.path), "WATCHER": self.socket.getsockname(),
                    "WATCHED_AS": f"desk {words[3]}" if kind is Desk else "office"}
         with self.starting:
-            process = kind(words, {**self.environment, **watched})
-            self.processes.append(process)
+            process = super().process(kind, words, **watched)
             self.pids.add(process.process.pid)
         return process
 
@@ -102,7 +98,7 @@ class WatchedRoom(ApartRoom):
 
 
 class Stop:
-    """A stop (kill -9) before the call of this number, of those that count: by this function, or by a method of the same name."""
+    """A stop (kill -9) before the call of this number among those that `counts` accepts, a method or this function."""
 
     def __init__(self, number, counts=None):
         self.number, self.calls, self.call = number, 0, None
@@ -122,8 +118,8 @@ class Stop:
 
 
 class Device:
-    """What of a folder is on the device: the bytes of each file and the names of each folder, as of their last sync. A file is known by
-    its inode; where rooms are in memory, no number comes twice."""
+    """The bytes of files and the names in folders that are on the device, as of the last sync of each. A file is known by its inode, whose
+    number is not used again while rooms are in memory."""
 
     def __init__(self, top):
         self.top, self.files, self.folders = top, {}, {}
@@ -140,8 +136,8 @@ class Device:
                 self.files[found.st_ino] = pathlib.Path(path).read_bytes()
 
     def images(self, chance):
-        """What a power cut may leave, each as paths with their modes and bytes: only what was synced; or the names as they are, and of
-        the files what was synced, or that and some of the sectors that were written since."""
+        """What a power cut can leave, each as paths with their modes and bytes: the synced names and bytes alone; or all names, with the
+        synced bytes of each file, or with these and some of the sectors that were written since."""
         return (frozenset(self.image("", os.lstat(self.top).st_ino, lambda ino, path: self.folders.get(ino, {}), self.bytes_of)),
                 frozenset(self.image("", 0, lambda ino, path: named(path), self.bytes_of)),
                 frozenset(self.image("", 0, lambda ino, path: named(path), lambda ino, path: self.torn(ino, path, chance))))
@@ -158,30 +154,29 @@ class Device:
         return self.files.get(ino, b"")
 
     def torn(self, ino, path, chance):
-        """What was synced, but for some of the sectors that are different since, and perhaps the length."""
+        """The synced bytes, but some of the sectors that have changed since, and perhaps the length, as they are now."""
         known, now = self.bytes_of(ino), pathlib.Path(path).read_bytes()
         before, after = known.ljust(len(now), b"\0"), now + known[len(now):]
         sectors = [chance.choice((before, after))[at:at + SECTOR] for at in range(0, len(before), SECTOR)]
         return b"".join(sectors)[:chance.choice((len(known), len(now)))]
 
     def synced(self, path):
-        """What of a file is on the device; nothing where its name is not."""
+        """The bytes of a file that are on the device; none if its name is not."""
         with contextlib.suppress(FileNotFoundError):
-            found = os.lstat(path)
-            name, folder = os.path.basename(path), os.lstat(os.path.dirname(path)).st_ino
-            if self.folders.get(folder, {}).get(name, (0,))[0] == found.st_ino:
-                return self.bytes_of(found.st_ino)
+            (folder, name), ino = os.path.split(path), os.lstat(path).st_ino
+            if self.folders.get(os.lstat(folder).st_ino, {}).get(name, (0,))[0] == ino:
+                return self.bytes_of(ino)
         return b""
 
 
 def named(folder):
-    """The names in a folder, each with its inode and mode; without `now`, which a start makes anew."""
+    """The names in a folder, each with its inode and mode, without `now`, which a start makes anew."""
     with os.scandir(folder) as entries:
         return {it.name: (it.inode(), it.stat(follow_symlinks=False).st_mode) for it in entries if not it.name.startswith("now")}
 
 
-def restore(image, room, from_path):
-    """Makes the room's files those of an image of another room; a path in them follows."""
+def restore(image, room):
+    """Makes the room's files those of an image of another room."""
     shutil.rmtree(room.path)
     room.path.mkdir(mode=0o700)
     for path, mode, data in sorted(image):
@@ -192,6 +187,5 @@ def restore(image, room, from_path):
             with socket.socket(socket.AF_UNIX) as at:
                 at.bind(str(there))
         else:
-            is_text = len(data) < 4096 and b"\0" not in data
-            there.write_bytes(data.replace(os.fsencode(from_path), os.fsencode(room.path)) if is_text else data)
+            there.write_bytes(data)
         there.chmod(stat.S_IMODE(mode))

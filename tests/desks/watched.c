@@ -1,7 +1,7 @@
 /* Preloaded under a process, it asks before each call that opens, makes, changes, syncs or renames something below the folder in
- * WATCHED, or that writes to a pipe or a socket: it sends the process's number, what WATCHED_AS calls it, the call and the path to the
- * socket in WATCHER, a field on each line. Where that closes the connection the call is made; where it answers by a byte the call fails
- * with the fault of that number. */
+ * WATCHED, or that writes to a pipe or a socket: it sends the process's number, the name in WATCHED_AS, the call and the path to the
+ * socket in WATCHER, a field on each line. If that closes the connection the call is made; if it answers by a byte the call fails with
+ * the fault of that number. */
 #define _GNU_SOURCE
 #include <dlfcn.h>
 #include <errno.h>
@@ -17,18 +17,16 @@
 #include <sys/un.h>
 #include <unistd.h>
 
-/* Asks before a call at a path; whether the call fails. Where nobody listens any more, the process goes on. A signal comes before or after:
- * its handler may write, and so ask, too. (sendto is not among the calls below.) */
+/* Asks before a call at a path; whether the call fails. If nobody listens any more the process goes on. Signals wait: their handlers can
+ * write, and so would ask too. (sendto is not among the calls below.) */
 static int asked(const char *call, const char *path) {
-    const char *watcher = getenv("WATCHER"), *as = getenv("WATCHED_AS");
     struct sockaddr_un place = {.sun_family = AF_UNIX};
     unsigned char fault = 0;
     char text[3 * PATH_MAX];
     sigset_t all, others;
-    int before = errno, fd = watcher && as ? socket(AF_UNIX, SOCK_STREAM | SOCK_CLOEXEC, 0) : -1;
-    if (fd < 0) return 0;
-    snprintf(place.sun_path, sizeof place.sun_path, "%s", watcher);
-    snprintf(text, sizeof text, "%d\n%s\n%s\n%s\n", getpid(), as, call, path);
+    int before = errno, fd = socket(AF_UNIX, SOCK_STREAM | SOCK_CLOEXEC, 0);
+    snprintf(place.sun_path, sizeof place.sun_path, "%s", getenv("WATCHER"));
+    snprintf(text, sizeof text, "%d\n%s\n%s\n%s\n", getpid(), getenv("WATCHED_AS"), call, path);
     sigfillset(&all);
     sigprocmask(SIG_BLOCK, &all, &others);
     if (connect(fd, (struct sockaddr *)&place, sizeof place) == 0 && sendto(fd, text, strlen(text), MSG_NOSIGNAL, NULL, 0) > 0)
@@ -39,8 +37,8 @@ static int asked(const char *call, const char *path) {
     return fault;
 }
 
-/* Asks before a call at a path, which is that of `folder` where it is not absolute; a path below a descriptor's is that file's. The path of
- * a descriptor alone is "". */
+/* Asks before a call at a path, if that is below the watched folder. A path that is not absolute is below `folder`, and one below that of a
+ * descriptor is below its file. The path of a descriptor alone is "". */
 static int ask(const char *call, int folder, const char *path) {
     const char *below = getenv("WATCHED");
     char link[40] = "/proc/self/cwd", found[PATH_MAX] = "", whole[2 * PATH_MAX];
@@ -56,17 +54,13 @@ static int ask(const char *call, int folder, const char *path) {
     return strncmp(whole, below, strlen(below)) == 0 && strchr("/", whole[strlen(below)]) ? asked(call, whole) : 0;
 }
 
-/* As ask, of a write: to a file below the folder, or to a pipe or a socket, but for standard error. */
+/* Asks before a write to a file below the watched folder, or to a pipe or a socket, except to standard error. */
 static int ask_of(const char *call, int fd) {
     struct stat found;
     int before = errno, is_file = fstat(fd, &found) < 0 || !(S_ISFIFO(found.st_mode) || S_ISSOCK(found.st_mode));
     errno = before;
     if (is_file) return ask(call, fd, "");
     return fd == 2 ? 0 : asked("send", fd == 1 ? "shown" : S_ISFIFO(found.st_mode) ? "pipe" : "socket");
-}
-
-static int ask_to_open(int folder, const char *path, int flags) {
-    return ask((flags & (O_ACCMODE | O_CREAT | O_TRUNC)) ? "open" : "look", folder, path);
 }
 
 static int ask_to_bind(const struct sockaddr_un *place, size_t length) {
@@ -89,11 +83,10 @@ static int ask_to_bind(const struct sockaddr_un *place, size_t length) {
 #define OF_FILE(name, call) ASKING(name, ask_of(call, (int)a))
 #define OF_PATH(name, call) ASKING(name, ask(call, AT_FDCWD, (const char *)a))
 #define BELOW_FOLDER(name, call) ASKING(name, ask(call, (int)a, (const char *)b))
+#define HOW(flags) ((flags) & (O_ACCMODE | O_CREAT | O_TRUNC) ? "open" : "look")  /* the flags are parameter b, or c after a folder */
 
-ASKING(open, ask_to_open(AT_FDCWD, (const char *)a, (int)b))
-ASKING(open64, ask_to_open(AT_FDCWD, (const char *)a, (int)b))
-ASKING(openat, ask_to_open((int)a, (const char *)b, (int)c))
-ASKING(openat64, ask_to_open((int)a, (const char *)b, (int)c))
+OF_PATH(open, HOW(b)) OF_PATH(open64, HOW(b))
+BELOW_FOLDER(openat, HOW(c)) BELOW_FOLDER(openat64, HOW(c))
 ASKING(bind, ask_to_bind((const struct sockaddr_un *)b, (socklen_t)c))
 ASKING(symlink, ask("link", AT_FDCWD, (const char *)b))
 OF_FILE(write, "write")
