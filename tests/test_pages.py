@@ -7,9 +7,9 @@ from pages.rules import RULES
 from pages.sources import Tree
 from places import TOP
 
-KINDS = {"examples": pytest.mark.long}  # the others look at the sources alone
-each_rule = pytest.mark.parametrize(
-    "rule", [pytest.param(it, id=it.name, marks=KINDS.get(it.name, pytest.mark.sources)) for it in RULES])
+# Only the examples are run. The other rules look at the sources alone.
+each_rule = pytest.mark.parametrize("rule", [
+    pytest.param(it, id=it.name, marks=pytest.mark.long if it.name == "examples" else pytest.mark.sources) for it in RULES])
 
 
 @pytest.fixture(scope="module")

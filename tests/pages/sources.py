@@ -2,6 +2,7 @@
 import re
 from collections import namedtuple
 from functools import cached_property, lru_cache
+from graphlib import TopologicalSorter
 from itertools import takewhile
 from pathlib import Path
 
@@ -155,39 +156,27 @@ class Tree:
         return operators | {full for word in NAME.findall(text) if (full := scope.full(word))}
 
     def closure(self, clauses):
-        """The definitions that these clauses rest on, and the other names that they use: types and words of the kit."""
+        """The definitions that these clauses rest on."""
         return self.followed(set().union(*[self.used_by(it.text, self.sources[it.path][1]) for it in clauses]))
 
     def unreached(self):
         """The definitions on which no clause, law or ghost field of the sources rests, in order."""
-        reached, _ = self.followed(set().union(*[self.used_by(*it[:2]) for it in self.sources.values()]))
+        reached = self.followed(set().union(*[self.used_by(*it[:2]) for it in self.sources.values()]))
         return [key for key in self.definitions if key not in reached]
 
     def followed(self, names):
-        """The definitions that these names lead to, and the other names that they use."""
-        reached, others, todo = set(), set(), set(names)
+        """The definitions that these names lead to."""
+        reached, todo = set(), set(names)
         while todo:
             key = todo.pop()
-            it = self.definitions.get(key)
-            if it and key not in reached:
+            if key in self.definitions and key not in reached:
                 reached.add(key)
-                todo |= self.used_by("\n".join(it.text), self.specs[f"{it.crate}.specs.{it.module}"][1]) - {key}
-            elif not it:
-                others.add(key)
-        return reached, others
+                it = self.definitions[key]
+                todo |= self.used_by("\n".join(it.text), self.specs[f"{it.crate}.specs.{it.module}"][1])
+        return reached
 
     def in_order(self, crate):
-        """The definitions of a crate, files that use no other first."""
-        seen, done = set(), []
-
-        def place(module):
-            if module in self.specs and module.startswith(f"{crate}.") and module not in seen:
-                seen.add(module)
-                scope = self.specs[module][1]
-                for full in [*scope.names.values(), *scope.modules.values()]:
-                    place(".".join(full.split(".")[:3]))
-                done.append(module)
-
-        for module in self.specs:
-            place(module)
-        return [it.key for module in done for it in self.specs[module][0]]
+        """The definitions of a crate, each file's after those of the files that it uses."""
+        uses = {module: sorted({".".join(it.split(".")[:3]) for it in [*scope.names.values(), *scope.modules.values()]} - {module})
+                for module, (_, scope) in self.specs.items() if module.startswith(f"{crate}.")}
+        return [it.key for module in TopologicalSorter(uses).static_order() if module in uses for it in self.specs[module][0]]
