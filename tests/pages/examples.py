@@ -66,15 +66,15 @@ def step_of(text, next_text):
 
 def steps_of(block, folder):
     """What is done with a block; None where no form fits."""
-    text, turns = "\n".join(block.lines), [TURN.fullmatch(line) for line in block.lines]
-    if block.file == "not run":
+    file, turns = block.fence.partition(" ")[2], [TURN.fullmatch(line) for line in block.lines]
+    if file == "not run":
         return []
-    if block.first.startswith("$ "):
-        commands = re.split(r"(?:\A|\n)\$ ", text)[1:]
+    if block.lines[0].startswith("$ "):
+        commands = re.split(r"(?:\A|\n)\$ ", "\n".join(block.lines))[1:]
         return [step_of(it, following.split("\n")[0]) for it, following in zip(commands, commands[1:] + [""])]
     if all(turns):
         return [Step("zhcount 2> /dev/null", [it[1] for it in turns], [it[2] for it in turns])]
-    return [Step(f"(set -C; cat > {shlex.quote(str(folder / block.file))})", block.lines)] if block.file else None
+    return [Step(f"(set -C; cat > {shlex.quote(str(folder / file))})", block.lines)] if file else None
 
 
 def meets(output, shown):
@@ -100,7 +100,7 @@ def fault_of(step, room, local):
 def run_page(tree, page, folder, environment, local):
     """Runs the blocks of a page, each step with a room, in one shell. The faults."""
     blocks = [(it, steps_of(it, folder)) for it in blocks_of(tree.read(page))]
-    yield from (f"{page}:{it.line}: {it.first}: it can't be run, and its fence does not say so" for it, steps in blocks if steps is None)
+    yield from (f"{page}:{it.line}: {it.lines[0]}: it can't be run, and its fence does not say so" for it, steps in blocks if steps is None)
     steps = [(block.line, it) for block, steps in blocks for it in steps or []]
     rooms = [Path(environment["TMPDIR"], "rooms", page, str(number)) for number in range(len(steps))]
     for (_, step), room in zip(steps, rooms):

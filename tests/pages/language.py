@@ -22,7 +22,7 @@ def features(section):
     prose = prose_of(text)
     plain = re.sub(r"\]\([^()\s]+\)", "]", CODE.sub("", prose))
     return {
-        "block": Counter("\n".join([f"{it.word} {it.file}".strip(), *it.lines]) for it in blocks_of(text)),
+        "block": Counter("\n".join([it.fence, *it.lines]) for it in blocks_of(text)),
         "row of a table": Counter("|" for it in section.lines if it.startswith("|")),
         "item": Counter(re.findall(r"^(?:[-*]|\d+\.) ", prose, re.M)),
         "word in backticks": Counter(CODE.findall(prose)),
