@@ -27,15 +27,11 @@ class Prover:
         """The arguments of a check of the crate in the current folder, over the libraries that are built."""
         root = "src/main.rt" if (self.tree.folder(crate) / "src/main.rt").is_file() else "src/lib.rt"
         of_kit = ["std", *(it for it in self.tree.named[crate] if it not in self.tree.named)]
-        libraries = {name: f"{self.kit}/rlibs/{name}.rlib" for name in of_kit}
-        libraries.update((name, self.tree.library(name)) for name in self.tree.uses[crate])
-        folders = [f"{self.kit}/rlibs", *(self.tree.library(name).parent for name in self.tree.below(crate))]
-        words = ["--crate-name", crate, root]
-        for name, library in libraries.items():
-            words += ["--extern", f"{name}={library}"]
-        for folder in folders:
-            words += ["-L", f"dependency={folder}"]
-        return [*words, "--antt-project", f"{self.kit}/rattle/logic/antt-project.json", "--logic-built", f"{self.kit}/logic_built",
+        libraries = [f"{it}={self.kit}/rlibs/{it}.rlib" for it in of_kit] + [f"{it}={self.tree.library(it)}" for it in self.tree.uses[crate]]
+        folders = [f"{self.kit}/rlibs", *(self.tree.library(it).parent for it in self.tree.below(crate))]
+        return ["--crate-name", crate, root, *(word for it in libraries for word in ("--extern", it)),
+                *(word for it in folders for word in ("-L", f"dependency={it}")),
+                "--antt-project", f"{self.kit}/rattle/logic/antt-project.json", "--logic-built", f"{self.kit}/logic_built",
                 "--links", f"{crate}="]
 
     def check(self, crate, texts, kept, jobs=1, only=()):
@@ -116,21 +112,15 @@ def build_libraries(tree, crates, jobs, say):
 
 
 def processors():
-    """The processors that the process may use, by its group's quota too."""
-    found, quota = len(os.sched_getaffinity(0)), numbers_in("/sys/fs/cgroup/cpu.max")
-    return max(1, min(found, quota[0] // quota[1])) if len(quota) == 2 else found
+    """The processors that the process may use."""
+    return len(os.sched_getaffinity(0))
 
 
 def free_memory():
-    """The bytes that are free, under the group's limit too."""
-    free = 1024 * int(re.search(r"MemAvailable: +(\d+)", Path("/proc/meminfo").read_text())[1])
-    most, held = numbers_in("/sys/fs/cgroup/memory.max"), numbers_in("/sys/fs/cgroup/memory.stat")
-    # (its first number is what cannot be given back)
-    return min(free, most[0] - held[0]) if most and held else free
-
-
-def numbers_in(path):
+    """The bytes that are free, under the limit of the process's group too."""
+    free, group = 1024 * int(re.search(r"MemAvailable: +(\d+)", Path("/proc/meminfo").read_text())[1]), Path("/sys/fs/cgroup")
     try:
-        return [int(it) for it in Path(path).read_text().split() if it.isdigit()]
-    except OSError:
-        return []
+        # (the first number of memory.stat is what can't be given back)
+        return min(free, int((group / "memory.max").read_text()) - int((group / "memory.stat").read_text().split()[1]))
+    except (OSError, ValueError):  # where there is no limit
+        return free
