@@ -31,7 +31,6 @@ class Edit:
     def __init__(self, name, crate, text):
         self.name, self.crate, self.text = name, crate, text
 
-    @cached_property
     def callers(self):
         """The functions that the edit's lines '# refused at' name, for example `row_sums` or `Office::store`."""
         found = []
@@ -82,9 +81,9 @@ class Edit:
     @property
     def functions(self):
         """The functions that are to refuse the edit: those that it names, else those that it changes."""
-        return list(dict.fromkeys(self.callers or [inner for inner, _ in self.places if inner]))
+        return list(dict.fromkeys(self.callers() or [inner for inner, _ in self.places if inner]))
 
     @property
     def stands_alone(self):
         """Whether it may change what other functions have to prove, which an edit of a type, a constant or a clause does."""
-        return bool(self.callers) or not all(is_in_body for _, is_in_body in self.places)
+        return bool(self.callers()) or not all(is_in_body for _, is_in_body in self.places)

@@ -5,6 +5,7 @@ import os
 import re
 import shutil
 import subprocess
+import tempfile
 import threading
 from pathlib import Path
 
@@ -18,42 +19,41 @@ SAID = {"stdin": subprocess.DEVNULL, "stdout": subprocess.PIPE, "stderr": subpro
 
 
 class Prover:
-    def __init__(self, tree, lanes):
+    """The prover on so many copies of crates at once, which are put into this folder."""
+
+    def __init__(self, tree, lanes, folder=None):
         said = subprocess.run(["rt", "doc"], stdout=subprocess.PIPE, text=True, check=True).stdout
-        self.tree, self.lanes, self.kit = tree, lanes, Path(said.strip()).parent
+        self.tree, self.lanes, self.folder, self.kit = tree, lanes, folder, Path(said.strip()).parent
         self.turns, self.running, self.is_stopped = threading.Semaphore(lanes), set(), False
 
     def words(self, crate):
         """The arguments of a check of the crate in the current folder, over the libraries that are built."""
         root = "src/main.rt" if (self.tree.folder(crate) / "src/main.rt").is_file() else "src/lib.rt"
         of_kit = ["std", *(it for it in self.tree.named[crate] if it not in self.tree.named)]
-        libraries = [f"{it}={self.kit}/rlibs/{it}.rlib" for it in of_kit] + [f"{it}={self.tree.library(it)}" for it in self.tree.uses[crate]]
+        libraries = [f"{it}={self.kit}/rlibs/{it}.rlib" for it in of_kit]
+        libraries += [f"{it}={self.tree.library(it)}" for it in self.tree.uses[crate]]
         folders = [f"{self.kit}/rlibs", *(self.tree.library(it).parent for it in self.tree.below(crate))]
         return ["--crate-name", crate, root, *(word for it in libraries for word in ("--extern", it)),
                 *(word for it in folders for word in ("-L", f"dependency={it}")),
                 "--antt-project", f"{self.kit}/rattle/logic/antt-project.json", "--logic-built", f"{self.kit}/logic_built",
                 "--links", f"{crate}="]
 
-    def check(self, crate, texts, kept, jobs=1, only=()):
+    def check(self, crate, texts, kept=None, jobs=1, only=()):
         """The report on the crate with these texts in place of its own, over the work in the folder `kept`, which the check adds to. It
         may be on these functions alone."""
-        room = kept.parent / f"{kept.name}.crate"
-        for part in PARTS:
-            if (self.tree.folder(crate) / part).is_dir():
-                shutil.copytree(self.tree.folder(crate) / part, room / part)
-        for file, text in texts.items():
-            (room / file).write_text(text, encoding="utf-8")
-        try:
-            words = [self.kit / "bin/rattle", "check", *self.words(crate), *(["--incremental", kept] if kept.is_dir() else [])]
-            words += [word for it in only for word in ("--only", it.path)]
-            with self.turns:
-                said, status = self.call([*words, "--jobs", str(jobs)], room)
-                if status == KILLED and not self.is_stopped:
-                    # (most likely for memory)
-                    said, status = self.call([*words, "--jobs", "1"], room)
-            return Report(said, status)
-        finally:
-            shutil.rmtree(room)
+        words = [self.kit / "bin/rattle", "check", *self.words(crate), *(["--incremental", kept] if kept else [])]
+        words += [word for it in only for word in ("--only", it.path)]
+        with self.turns, tempfile.TemporaryDirectory(dir=self.folder) as room:
+            for part in PARTS:
+                if (self.tree.folder(crate) / part).is_dir():
+                    shutil.copytree(self.tree.folder(crate) / part, Path(room, part))
+            for file, text in texts.items():
+                Path(room, file).write_text(text, encoding="utf-8")
+            said, status = self.call([*words, "--jobs", str(jobs)], room)
+            if status == KILLED and not self.is_stopped:
+                # (most likely for memory)
+                said, status = self.call([*words, "--jobs", "1"], room)
+        return Report(said, status)
 
     def call(self, words, folder):
         """What a command says in this folder, and its status."""
@@ -75,25 +75,13 @@ class Prover:
         for ran in [*self.running]:
             ran.kill()
 
-    def seed(self, crate, room, jobs):
-        """A folder with the work of a check of the unchanged crate, and the report."""
-        seed, own = room / "seed", self.tree.folder(crate) / "out/incremental"
-        if own.is_dir():
-            shutil.copytree(own, seed)
-        seed.mkdir(exist_ok=True)
-        return seed, self.check(crate, {}, seed, jobs)
-
-    def check_over(self, seed, crate, texts, number, only):
+    def check_over(self, seed, crate, texts, only):
         """The report on the crate with these texts, over a copy of the seed; or without one on these functions alone, if it finds them."""
-        kept = seed.parent / str(number)
-        if not seed.is_dir():
-            report = self.check(crate, texts, kept, only=only)
-            return report if report.status != 2 else self.check(crate, texts, kept)
-        shutil.copytree(seed, kept)
-        try:
-            return self.check(crate, texts, kept)
-        finally:
-            shutil.rmtree(kept)
+        if not seed:
+            report = self.check(crate, texts, only=only)
+            return report if report.status != 2 else self.check(crate, texts)
+        with tempfile.TemporaryDirectory(dir=self.folder) as kept:
+            return self.check(crate, texts, shutil.copytree(seed, kept, dirs_exist_ok=True))
 
 
 def build_libraries(tree, crates, jobs, say):
