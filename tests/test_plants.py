@@ -11,9 +11,10 @@ If a mistake can't change anything that a person sees, it has 'changes nothing:'
 test is run for it. As a control, each test that a plant names must pass on a copy without a mistake.
 
 A run that sees all mistakes of desks or of the page writes the sum of their files to tests/plants.passed. While the sum stays,
-`make test` tries IN_TURN of them, other ones after each commit; with another sum it tries all. Those of tests/real_file are slow."""
+`make test` tries IN_TURN of them, different ones after each commit; if the sum changes, it tries all. Those of tests/real_file are slow."""
+import contextlib
 import hashlib
-import importlib
+import itertools
 import os
 import re
 import shutil
@@ -25,7 +26,6 @@ import pytest
 
 import seals
 from edited.edit import entries_of
-from edited.tree import Tree
 from places import TOP
 
 PASSED = TOP / "tests/plants.passed"
@@ -58,7 +58,7 @@ class Part(namedtuple("Part", "name folder whole fault forms marks")):
 
     def sum(self):
         """A sum of the files that a mistake is seen by: the scripts, their tests, and what all tests share."""
-        folders = [(TOP / self.folder).parent if self.name == "page" else TOP / self.folder, TOP / "tests" / self.name]
+        folders = [TOP / self.folder.removesuffix("/parts"), TOP / "tests" / self.name]
         found = [it for folder in folders for it in folder.rglob("*") if it.is_file() and not UNREAD & {it.suffix, *it.parts}]
         files = sorted([*found, TOP / "tests/test_plants.py", TOP / "tests/conftest.py"])
         return hashlib.sha256(repr([(str(it.relative_to(TOP)), it.read_bytes()) for it in files]).encode()).hexdigest()[:32]
@@ -73,9 +73,9 @@ class Part(namedtuple("Part", "name folder whole fault forms marks")):
 # What a test of each part reports on the copy of a folder.
 
 
-def fault_of_pytest(part, test, top, environment):
+def fault_of_pytest(part, test, environment):
     words = [sys.executable, "-m", "pytest", "-n0", "-x", "--tb=short", "-p", "no:cacheprovider", f"tests/{part}/{test}"]
-    done = subprocess.run(words, cwd=top, env={**environment, "CI": "has lines of any length"}, stdout=subprocess.PIPE,
+    done = subprocess.run(words, cwd=TOP, env={**environment, "CI": "has lines of any length"}, stdout=subprocess.PIPE,
                           stderr=subprocess.STDOUT, text=True)
     if done.returncode == 0:
         return None
@@ -91,14 +91,14 @@ def of_desks(test, folder, room, request):
     waits = {"IN_VAIN": says.partition("not after: ")[2]}
     if not waits["IN_VAIN"]:  # many nights, what has to happen at once, or what soon follows
         waits["PATIENCE"] = "90" if test.startswith("test_stops.py") else "30" if says == "not after" else "60"
-    return fault_of_pytest("desks", test, TOP, {**waits, **os.environ, "DESKS": str(folder)})
+    return fault_of_pytest("desks", test, {**waits, **os.environ, "DESKS": str(folder)})
 
 
 def of_the_operating_system(test, folder, room, request):
     """With the program of the copy, compiled unproved."""
     top = folder.parents[1]
     program = subprocess.run([top / "scripts/program"], stdout=subprocess.PIPE, text=True, check=True).stdout.strip()
-    return fault_of_pytest("real_file", test, top, {**os.environ, "ZHCOUNT": program})
+    return fault_of_pytest("real_file", test, {**os.environ, "ZHCOUNT": program})
 
 
 class Reports:
@@ -117,7 +117,7 @@ class Reports:
 @pytest.fixture(scope="session")
 def browsers():
     """A browser for each language, which stays for all mistakes that a process tries, since it takes long to start."""
-    started = importlib.import_module("browser").started
+    from browser import started
     drivers = {}
     yield lambda language: drivers.get(language) or drivers.setdefault(language, started(language))
     for it in drivers.values():
@@ -126,13 +126,14 @@ def browsers():
 
 def of_the_page(test, folder, room, request):
     """The test runs in this process, so that it takes the browser that is there."""
-    page, reports, case = room / "index.html", Reports(), importlib.import_module("case").Case
+    from case import Case
+    page, reports = room / "index.html", Reports()
     page.write_text(seals.SEAL.sealed(folder))
     words = ["-x", "-o", "addopts=", "-n0", "-p", "no:terminal", "-p", "no:cacheprovider", "-p", "no:faulthandler", "-s"]
     with pytest.MonkeyPatch.context() as patch:
-        patch.setattr(case, "path", page)
-        patch.setattr(case, "starts", request.getfixturevalue("browsers"))
-        patch.setattr(case, "ends", lambda driver: None)
+        patch.setattr(Case, "path", page)
+        patch.setattr(Case, "starts", request.getfixturevalue("browsers"))
+        patch.setattr(Case, "ends", lambda driver: None)
         pytest.main([*words, f"{TOP}/tests/page/{test}"], plugins=[reports])
     assert reports.said or reports.passed, "no test was run"
     return reports.said
@@ -152,54 +153,43 @@ def kept_sums():
 
 def mistakes():
     """All of them. Those of a part that is as it was when all were seen are slow, but for those in turn."""
-    found, kept, commits = [], kept_sums(), Tree(TOP).commits()
+    counted = subprocess.run(["git", "rev-list", "--count", "HEAD"], cwd=TOP, capture_output=True, text=True).stdout
+    found, kept, commits = [], kept_sums(), int(counted or 0)
     for part in PARTS:
-        plants, tried = part.plants(), kept.get(part.name) == part.sum()
-        turns = -(-len(plants) // IN_TURN)
+        plants = part.plants()
+        turns = -(-len(plants) // IN_TURN) if kept.get(part.name) == part.sum() else 1
         for at, (name, plant) in enumerate(plants.items()):
-            marks = (*part.marks, pytest.mark.slow) if tried and (at - commits) % turns else part.marks
+            marks = (*part.marks, pytest.mark.slow) if (at - commits) % turns else part.marks
             found.append(pytest.param(part, plant, id=f"{part.name}-{name}", marks=marks))
     return found
 
 
 def keep_sums(passed):
     """Writes the sum of each part of whose mistakes all are among the tests that passed."""
-    kept = kept_sums()
-    for part in PARTS:
-        if passed.issuperset(f"tests/test_plants.py::test_mistake[{part.name}-{it}]" for it in part.plants()):
-            kept[part.name] = part.sum()
-    if kept != kept_sums():
-        PASSED.write_text("".join(f"{name} {kept[name]}\n" for name in sorted(kept)))
+    seen = {part.name: part.sum() for part in PARTS
+            if passed.issuperset(f"tests/test_plants.py::test_mistake[{part.name}-{it}]" for it in part.plants())}
+    if seen:
+        PASSED.write_text("".join(f"{name} {it}\n" for name, it in sorted({**kept_sums(), **seen}.items())))
 
 
 def controls():
     """Each test that a plant names, once. `make test` takes one of each file: there the others run on the same text anyway."""
     found = []
     for part in PARTS:
-        files = set()
-        for test in sorted({it["seen by"] for it in part.plants().values() if "seen by" in it}):
-            file = test.partition("::")[0]
-            marks = (*part.marks, pytest.mark.slow) if file in files else part.marks
-            files.add(file)
-            found.append(pytest.param(part, test, id=f"{part.name}-{test}", marks=marks))
+        tests = sorted({it["seen by"] for it in part.plants().values() if "seen by" in it})
+        for _, of_a_file in itertools.groupby(tests, lambda it: it.partition("::")[0]):
+            for at, test in enumerate(of_a_file):
+                marks = (*part.marks, pytest.mark.slow) if at else part.marks
+                found.append(pytest.param(part, test, id=f"{part.name}-{test}", marks=marks))
     return found
-
-
-def told(said):
-    """What a test reports, without the time for which it waited."""
-    return LATE.sub("not after", said, 1)
-
-
-def waited_in_vain(said, says):
-    """Whether the test only waited for something that did not come, although the plant does not say for what."""
-    return said is not None and bool(LATE.search(said)) and (not says.startswith("not after") or says not in told(said))
 
 
 def judge(said, says):
     """A fault counts if it is what the plant says. That nothing came for a while counts if the plant says so."""
     assert said is not None, "the test does not see it"
-    assert not waited_in_vain(said, says), f"the test waited in vain, which counts for nothing here: {said}"
-    assert says in told(said), f"the test reports something else: {told(said)}"
+    reported = LATE.sub("not after", said, 1)
+    assert reported == said or says.startswith("not after"), f"the test waited in vain, which counts for nothing here: {said}"
+    assert says in reported, f"the test reports something else: {reported}"
 
 
 @pytest.mark.plants
@@ -221,24 +211,18 @@ def test_without_a_mistake(part, test, tmp_path, request):
 
 
 @pytest.mark.parametrize("said, says, fault", [
+    ("'1 stored 2' is not '1 stored 1'", "is not '1 stored 1'", None),
+    ("not after 15 seconds: a copy", "not after: a copy", None),
     (None, "", "does not see it"),
     ("'1 stored 2' is not '1 stored 1'", "another", "reports something else"),
+    ("not after 15 seconds: a copy", "not after: an answer", "reports something else"),
     ("not after 15 seconds: a copy", "", "waited in vain"),
     ("not after 15 seconds: a copy", "a copy", "waited in vain"),
     ("Command '['zhcount-desk']' timed out after 60 seconds", "", "waited in vain"),
-    ("not after 15 seconds: a copy", "not after: an answer", "waited in vain"),
 ])
-def test_what_does_not_count(said, says, fault):
-    with pytest.raises(AssertionError, match=fault):
+def test_what_counts(said, says, fault):
+    with pytest.raises(AssertionError, match=fault) if fault else contextlib.nullcontext():
         judge(said, says)
-
-
-@pytest.mark.parametrize("said, says", [
-    ("'1 stored 2' is not '1 stored 1'", "is not '1 stored 1'"),
-    ("not after 15 seconds: a copy", "not after: a copy"),
-])
-def test_what_counts(said, says):
-    judge(said, says)
 
 
 def test_kept_sums(tmp_path, monkeypatch):
