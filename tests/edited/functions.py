@@ -25,32 +25,33 @@ class Function(namedtuple("Function", "file name of trait start body end")):
 
 
 def body_of(lines, start, indent):
-    """The first line of a function's body and the last one, or None for a function without a body."""
+    """The first line of a function's body and the last one. Where it has no body, the first is the one after the contract and the last
+    the one before."""
     in_clauses = False
     for at in range(start, len(lines)):
         line = lines[at].rstrip()
         if at > start and HEAD.match(line):
-            break
+            return at, at - 1
         in_clauses = in_clauses or CLAUSE.match(line) is not None
         if line == indent + "{" or not in_clauses and line.endswith("{"):
             return at, lines.index(indent + "}", at)
         if line == indent + "{}":
             return at, at
         if not in_clauses and line.endswith(";"):
-            break
-    return None
+            return at + 1, at
+    return len(lines), len(lines) - 1
 
 
 def impl_of(head):
     """The type and the trait of an impl's or a trait's first line, without their modules and what is in brackets."""
     while re.search(r"<[^<>]*>", head):
         head = re.sub(r"<[^<>]*>", "", head)
-    trait, of = re.match(r"\W*(?:([\w:]+) for )?\W*([\w:]*)", head).groups("")
+    trait, of = re.match(r"\W*(?:([\w:]+) for )?\W*((?:\w|::)*)", head).groups("")
     return of.rpartition("::")[2], trait.rpartition("::")[2]
 
 
-def functions_of(file, text):
-    """The functions of a file that have a body."""
+def declarations_of(file, text):
+    """The functions of a file, also those of a trait that have no body."""
     lines, found, block = text.split("\n"), [], ("", "", "")
     for at, line in enumerate(lines):
         opens, head = BLOCK.match(line), HEAD.match(line)
@@ -58,9 +59,15 @@ def functions_of(file, text):
             block = (opens[1], *impl_of(opens[3]))
         elif block[1] and line.rstrip() == block[0] + "}":
             block = ("", "", "")
-        elif head and (body := body_of(lines, at, head[1])):
-            found.append(Function(file, head[2], block[1], block[2], at + 1, body[0] + 1, body[1] + 1))
+        elif head:
+            body, end = body_of(lines, at, head[1])
+            found.append(Function(file, head[2], block[1], block[2], at + 1, body + 1, end + 1))
     return found
+
+
+def functions_of(file, text):
+    """The functions of a file that have a body."""
+    return [it for it in declarations_of(file, text) if it.body <= it.end]
 
 
 def without_bodies(text):

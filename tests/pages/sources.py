@@ -6,11 +6,12 @@ from graphlib import TopologicalSorter
 from itertools import takewhile
 from pathlib import Path
 
+from edited.functions import declarations_of
+
 NAME = re.compile(r"[^\W\d]\w*'*(?:\.[^\W\d]\w*'*)*")
 USE = re.compile(r"(?:ghost )?use Rattle\.([\w.]+?)(?:\.\{(.*)\})?(?: as (\w+))?;?$")
 HEAD = re.compile(r"^(?:unfoldable |abbrev |record |data |pub )+(\S+)")
-OF_SOURCE = re.compile(r"^(?P<indent> *)(?:pub(?:\(\w+\))? |unsafe )*(?P<head>(?:impl|trait)\b[^{;]*){|^(?P<end> *)}|\bfn (?P<function>\w+)"
-                       r"|\bensures(?: (?P<clause>\w+))? {", re.M)
+ENSURES = re.compile(r"\bensures(?: (\w+))? {")
 
 Definition = namedtuple("Definition", "key crate module name line comment text")
 Clause = namedtuple("Clause", "crate path function name text")
@@ -72,33 +73,17 @@ def read_specs(crate, module, text):
 
 @lru_cache(None)
 def read_source(crate, path, text):
-    """The code of a file of src without its comments and imports, its scope, and its `ensures` clauses."""
-    scope = Scope()
+    """The code of a file of src without its comments and imports, its scope, and its `ensures` clauses; of a function without any an
+    empty one."""
+    scope, found = Scope(), []
     lines = [re.sub(r"(^|\s)//.*", "", line) for line in text.splitlines()]
-    code = "\n".join("" if scope.read(line) else line for line in lines)
-    return code, scope, [Clause(crate, path, *it) for it in clauses_of(code)]
-
-
-def clauses_of(code):
-    """Function, name and text of each clause; of a function without any an empty one."""
-    owner, found = ("", ""), {}
-    for it in OF_SOURCE.finditer(code):
-        if it["head"]:
-            owner = it["indent"], f"{owner_of(it['head'])}::"
-        elif it["end"] is not None:
-            owner = ("", "") if it["end"] == owner[0] else owner
-        elif it["function"]:
-            last = found.setdefault((owner[1] + it["function"], it.start()), [])
-        else:
-            last.append((it["clause"] or "", block_at(code, it.end())))
-    return [(function, *it) for (function, _), clauses in found.items() for it in clauses or [("", "")]]
-
-
-def owner_of(head):
-    """The type of an impl, `Trait for Type` where it is one of a trait, or the trait's name."""
-    head = re.sub(r"^(impl|trait)(<[^{]*?>(?= ))?", "", " ".join(head.split())).strip()
-    head = re.sub(r"<[^<>]*>", "", re.sub(r"<[^<>]*>", "", head)).split(" where ")[0]
-    return (head if "::" in head else head.split(":")[0]).strip()
+    lines = ["" if scope.read(line) else line for line in lines]
+    for it in declarations_of(path, "\n".join(lines)):
+        owner = f"{it.trait} for {it.of}" if it.trait else it.of
+        contract = "\n".join(lines[it.start - 1:it.body - 1])
+        clauses = [(clause[1] or "", block_at(contract, clause.end())) for clause in ENSURES.finditer(contract)]
+        found += [Clause(crate, path, "::".join(filter(None, (owner, it.name))), *clause) for clause in clauses or [("", "")]]
+    return "\n".join(lines), scope, found
 
 
 def block_at(code, start):
