@@ -24,7 +24,7 @@ class Prover:
     def __init__(self, tree, lanes, folder=None):
         said = subprocess.run(["rt", "doc"], stdout=subprocess.PIPE, text=True, check=True).stdout
         self.tree, self.lanes, self.folder, self.kit = tree, lanes, folder, Path(said.strip()).parent
-        self.turns, self.running, self.is_stopped = threading.Semaphore(lanes), set(), False
+        self.turns = threading.Semaphore(lanes)
 
     def words(self, crate):
         """The arguments of a check of the crate in the current folder, over the libraries that are built."""
@@ -50,30 +50,17 @@ class Prover:
             for file, text in texts.items():
                 Path(room, file).write_text(text, encoding="utf-8")
             said, status = self.call([*words, "--jobs", str(jobs)], room)
-            if status == KILLED and not self.is_stopped:
-                # (most likely for memory)
+            if status == KILLED:  # most likely for memory
                 said, status = self.call([*words, "--jobs", "1"], room)
         return Report(said, status)
 
     def call(self, words, folder):
-        """What a command says in this folder, and its status."""
-        if self.is_stopped:
-            return "rattle: no verdict, since the run was ended", KILLED
-        with subprocess.Popen(words, cwd=folder, **SAID) as ran:
-            self.running.add(ran)
-            try:
-                return ran.communicate(timeout=SECONDS)[0], ran.returncode
-            except subprocess.TimeoutExpired:
-                ran.kill()
-                return f"rattle: no verdict after {SECONDS} seconds", 3
-            finally:
-                self.running.discard(ran)
-
-    def stop(self):
-        """Ends the checks that run."""
-        self.is_stopped = True
-        for ran in [*self.running]:
-            ran.kill()
+        """What a command says in this folder, and its status. It ends with this process."""
+        try:
+            ran = subprocess.run(["setpriv", "--pdeathsig", "KILL", *words], cwd=folder, timeout=SECONDS, **SAID)
+            return ran.stdout, ran.returncode
+        except subprocess.TimeoutExpired:
+            return f"rattle: no verdict after {SECONDS} seconds", 3
 
     def check_over(self, seed, crate, texts, only):
         """The report on the crate with these texts, over a copy of the seed; or without one on these functions alone, if it finds them."""
