@@ -40,9 +40,9 @@ SEEN = re.compile(rf"= FAILURES =(?:.|\n)*?^E   (?:(?:{ERRORS}): (.*)(?:\nE   (a
 LATE = re.compile(r"not after [\d.]+ seconds|.* timed out after [\d.]+ seconds")
 
 
-class Part(namedtuple("Part", "name folder whole fault forms marks")):
-    """What the plants of a folder of tests are about: the folder whose files are changed, the one that is copied for it, what a test
-    reports that fails on the copy, or None if it passes, and the forms and the marks of its plants."""
+class Part(namedtuple("Part", "name folder whole environment forms marks")):
+    """What the plants of a folder of tests are about: the folder whose files are changed, the one that is copied for it, what a test finds
+    in its environment so that it runs on the copy, and the forms and the marks of its plants."""
 
     def plants(self):
         """The fields of each plant, by its name, and the file that it changes."""
@@ -69,74 +69,37 @@ class Part(namedtuple("Part", "name folder whole fault forms marks")):
         shutil.copytree(source, room / "copy" / self.whole, symlinks=True, ignore=shutil.ignore_patterns("out", ".git"))
         return room / "copy" / self.folder
 
-
-# What a test of each part reports on the copy of a folder.
-
-
-def fault_of_pytest(part, test, environment):
-    words = [sys.executable, "-m", "pytest", "-n0", "-x", "--tb=short", "-p", "no:cacheprovider", f"tests/{part}/{test}"]
-    done = subprocess.run(words, cwd=TOP, env={**environment, "CI": "has lines of any length"}, stdout=subprocess.PIPE,
-                          stderr=subprocess.STDOUT, text=True)
-    if done.returncode == 0:
-        return None
-    found = SEEN.search(done.stdout)
-    assert done.returncode == 1 and found, f"the test has a fault of its own: {done.stdout[-2000:]}"
-    return ": ".join(filter(None, found.groups()))
+    def fault(self, test, folder, says=""):
+        """What a test reports on the copy, or None if it passes."""
+        words = [sys.executable, "-m", "pytest", "-n0", "-x", "--tb=short", "-p", "no:cacheprovider", f"tests/{self.name}/{test}"]
+        environment = {**os.environ, **self.environment(test, folder, says), "CI": "has lines of any length"}
+        done = subprocess.run(words, cwd=TOP, env=environment, stdout=subprocess.PIPE, stderr=subprocess.STDOUT, text=True)
+        if done.returncode == 0:
+            return None
+        found = SEEN.search(done.stdout)
+        assert done.returncode == 1 and found, f"the test has a fault of its own: {done.stdout[-2000:]}"
+        return ": ".join(filter(None, found.groups()))
 
 
-def of_desks(test, folder, room, request):
+def of_desks(test, folder, says):
     """A mistake may have the test wait in vain: where it does not say for what, the test waits for nothing long."""
-    request.getfixturevalue("program")
-    says = request.node.callspec.params.get("plant", {}).get("says", "")
-    waits = {"IN_VAIN": says.partition("not after: ")[2]}
-    if not waits["IN_VAIN"]:  # many nights, what has to happen at once, or what soon follows
-        waits["PATIENCE"] = "90" if test.startswith("test_stops.py") else "30" if says == "not after" else "60"
-    return fault_of_pytest("desks", test, {**waits, **os.environ, "DESKS": str(folder)})
+    in_vain = says.partition("not after: ")[2]
+    if in_vain:
+        return {"DESKS": str(folder), "IN_VAIN": in_vain}
+    # many nights, what has to happen at once, or what soon follows
+    return {"DESKS": str(folder), "PATIENCE": "90" if test.startswith("test_stops.py") else "30" if says == "not after" else "60"}
 
 
-def of_the_operating_system(test, folder, room, request):
-    """With the program of the copy, compiled unproved."""
-    top = folder.parents[1]
-    program = subprocess.run([top / "scripts/program"], stdout=subprocess.PIPE, text=True, check=True).stdout.strip()
-    return fault_of_pytest("real_file", test, {**os.environ, "ZHCOUNT": program})
-
-
-class Reports:
-    """A plugin of pytest that keeps what the first test reports that fails, and how many pass."""
-    said, passed = None, 0
-
-    def pytest_runtest_logreport(self, report):
-        self.passed += report.when == "call" and report.passed
-        if report.failed and self.said is None:
-            message = getattr(getattr(report.longrepr, "reprcrash", None), "message", str(report.longrepr))
-            kind, _, rest = message.partition(": ")
-            assert report.when == "call" and kind == "AssertionError", f"the test has a fault of its own: {message}"
-            self.said = rest.splitlines()[0][:1000]  # a page may be among it
-
-
-@pytest.fixture(scope="session")
-def browsers():
-    """A browser for each language, which stays for all mistakes that a process tries, since it takes long to start."""
-    from browser import started
-    drivers = {}
-    yield lambda language: drivers.get(language) or drivers.setdefault(language, started(language))
-    for it in drivers.values():
-        it.quit()
-
-
-def of_the_page(test, folder, room, request):
-    """The test runs in this process, so that it takes the browser that is there."""
-    from case import Case
-    page, reports = room / "index.html", Reports()
+def of_the_page(test, folder, says):
+    page = folder.parent / "index.html"
     page.write_text(seals.SEAL.sealed(folder))
-    words = ["-x", "-o", "addopts=", "-n0", "-p", "no:terminal", "-p", "no:cacheprovider", "-p", "no:faulthandler", "-s"]
-    with pytest.MonkeyPatch.context() as patch:
-        patch.setattr(Case, "path", page)
-        patch.setattr(Case, "starts", request.getfixturevalue("browsers"))
-        patch.setattr(Case, "ends", lambda driver: None)
-        pytest.main([*words, f"{TOP}/tests/page/{test}"], plugins=[reports])
-    assert reports.said or reports.passed, "no test was run"
-    return reports.said
+    return {"PAGE": str(page)}
+
+
+def of_the_operating_system(test, folder, says):
+    """The program of the copy is compiled unproved."""
+    ran = subprocess.run([folder.parents[1] / "scripts/program"], stdout=subprocess.PIPE, text=True, check=True)
+    return {"ZHCOUNT": ran.stdout.strip()}
 
 
 PARTS = [
@@ -194,20 +157,21 @@ def judge(said, says):
 
 @pytest.mark.plants
 @pytest.mark.parametrize("part, plant", mistakes())
-def test_mistake(part, plant, tmp_path, request):
+def test_mistake(part, plant, tmp_path):
     folder = part.copied(tmp_path)
     path, = folder.rglob(plant["file"])
     text = path.read_text()
     assert text.count(plant["old"]) == 1, f"the right text is in {plant['file']} {text.count(plant['old'])} times, not once"
     path.write_text(text.replace(plant["old"], plant["new"]))
     if "seen by" in plant:
-        judge(part.fault(plant["seen by"], folder, tmp_path, request), plant.get("says", ""))
+        says = plant.get("says", "")
+        judge(part.fault(plant["seen by"], folder, says), says)
 
 
 @pytest.mark.plants
 @pytest.mark.parametrize("part, test", controls())
-def test_without_a_mistake(part, test, tmp_path, request):
-    assert part.fault(test, part.copied(tmp_path), tmp_path, request) is None
+def test_without_a_mistake(part, test, tmp_path):
+    assert part.fault(test, part.copied(tmp_path)) is None
 
 
 @pytest.mark.parametrize("said, says, fault", [

@@ -1,4 +1,5 @@
 """A headless browser on the page, driven as somebody would drive it: files are chosen, texts pasted, keys pressed."""
+import os
 import pathlib
 import tempfile
 
@@ -10,7 +11,7 @@ from selenium.webdriver.support.ui import WebDriverWait
 
 from places import TOP
 
-PAGE = TOP / "page" / "index.html"
+PAGE = pathlib.Path(os.environ.get("PAGE") or TOP / "page/index.html")
 # No test is about time: a machine may be slow, and have other work. So many seconds mean that nothing comes any more.
 PATIENCE = 600
 STARTS = 5
