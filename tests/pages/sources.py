@@ -10,6 +10,7 @@ from edited.functions import declarations_of
 
 NAME = re.compile(r"[^\W\d]\w*'*(?:\.[^\W\d]\w*'*)*")
 USE = re.compile(r"(?:ghost )?use Rattle\.([\w.]+?)(?:\.\{(.*)\})?(?: as (\w+))?;?$")
+MODULE = re.compile(r"^module .*((?:\n(?:  .*|--.*|))*)", re.M)
 HEAD = re.compile(r"^(?:unfoldable |abbrev |record |data |pub )+(\S+)")
 ENSURES = re.compile(r"\bensures(?: (\w+))? {")
 
@@ -48,17 +49,11 @@ class Scope:
 @lru_cache(None)
 def read_specs(crate, module, text):
     """The definitions of a file of specs, in order, each with the comment above it, and its scope."""
-    lines, found, indent, above = text.splitlines(), [], "", []
+    lines, found, above = MODULE.sub(lambda it: it[1].replace("\n  ", "\n"), text).splitlines(), [], []
     scope = Scope(" ".join(it.removeprefix("--").strip() for it in takewhile(lambda it: it.startswith("--"), lines)))
     for number, line in enumerate(lines, 1):
-        if line.startswith("use "):
-            scope.read(line)
+        if scope.read(line):
             continue
-        if line[:1].strip():
-            indent = "  " if line.startswith("module ") else indent if line.startswith("--") else ""
-        if line.startswith("module "):
-            continue
-        line = line.removeprefix(indent)
         head = HEAD.match(line)
         if head and head[1] != "mod" and not (found and head[1] == found[-1].name):
             found.append(Definition(f"{crate}.specs.{module}.{head[1]}", crate, module, head[1], number, " ".join(above), []))
