@@ -1,8 +1,7 @@
 """Compares the pages with the sources. `python3 tests/pages COMMAND`:
 
   rules              the rules, each by its name
-  check [RULE]..     whether these rules hold, or all but the examples, which need the built program and a minute
-  run [PAGE]..       whether the examples of these pages, or of all, do what they show
+  check [RULE]..     whether these rules hold, or all but `examples`, which needs the built program and a minute
   write              writes what pages have from the sources: the definitions of the headline, its record, the evidence in numbers
   reach [CLAUSE]..   the definitions that clauses rest on, in an order in which they can be read: of `program.headline`, of
                      `Office::line` as a whole, or of all in PROVED
@@ -15,17 +14,9 @@ sys.dont_write_bytecode = True
 sys.path.insert(0, str(Path(__file__).resolve().parents[1]))
 
 from pages.cited import promised
-from pages.examples import examples
 from pages.rules import RULES
 from pages.sources import Tree
 from pages.written import write
-
-
-def report(faults):
-    """Prints these faults and their number. The status."""
-    faults = list(faults)
-    print(*faults, f"{len(faults)} wrong", sep="\n")
-    return min(len(faults), 1)
 
 
 def rules(tree):
@@ -33,14 +24,12 @@ def rules(tree):
 
 
 def check(tree, *names):
-    asked = [it for it in RULES if it.name in names or not names and it.faults is not examples]
+    asked = [it for it in RULES if it.name in names or not names and it.name != "examples"]
     if len(asked) < len(names):
         sys.exit(f"The rules are: {', '.join(it.name for it in RULES)}.")
-    return report(it for rule in asked for it in rule.faults(tree))
-
-
-def run(tree, *pages):
-    return report(examples(tree, pages))
+    faults = [it for rule in asked for it in rule.faults(tree)]
+    print(*faults, f"{len(faults)} wrong", sep="\n")
+    return min(len(faults), 1)
 
 
 def reach(tree, *names):
@@ -51,7 +40,7 @@ def reach(tree, *names):
     print(f"{len(reached)} of {len(tree.definitions)} definitions")
 
 
-COMMANDS: Dict[str, Callable] = {"rules": rules, "check": check, "run": run, "write": write, "reach": reach}
+COMMANDS: Dict[str, Callable] = {"rules": rules, "check": check, "write": write, "reach": reach}
 
 if __name__ == "__main__":
     command, *words = sys.argv[1:] or [""]

@@ -145,10 +145,9 @@ def run_group(tree, group):
         return [fault for page in group for fault in run_page(tree, page, folder, environment, str(local))]
 
 
-def examples(tree, pages=()):
-    """What is not as these pages show it, or as any page does; the groups side by side."""
-    groups = [it for it in GROUPS if not pages or not set(it).isdisjoint(pages)]
-    if not groups or not os.access(PROGRAM, os.X_OK):
-        return [f"there is no program {PROGRAM}, or no example to be run on {' '.join(pages)}"]
+def examples(tree):
+    """What is not as a page shows it; the groups are run side by side."""
+    if not os.access(PROGRAM, os.X_OK):
+        return [f"there is no program {PROGRAM}"]
     with ThreadPoolExecutor() as pool:
-        return [fault for found in pool.map(lambda it: run_group(tree, it), groups) for fault in found]
+        return [fault for found in pool.map(lambda it: run_group(tree, it), GROUPS) for fault in found]
