@@ -94,16 +94,12 @@ class Tree:
         """The sum of all that a crate's library is made from."""
         return sum_of(repr([self.logic, *((it, self.named[it], self.files(it, *PARTS)) for it in [*self.below(crate), crate])]))
 
-    def note_of(self, crate):
-        # (the toolchain removes the folder before it makes the library anew)
-        return self.library(crate).parent / "sources"
-
     def note(self, crate):
-        """Notes that the library stands there as it is made from the sources of now."""
-        self.note_of(crate).write_text(self.library_sum(crate) + "\n", encoding="utf-8")
+        """Notes, in its folder, which the toolchain removes before it makes it anew, that the library is made from the sources of now."""
+        (self.library(crate).parent / "sources").write_text(self.library_sum(crate) + "\n", encoding="utf-8")
 
     def is_noted(self, crate):
-        return words_in(self.note_of(crate)) == [self.library_sum(crate)]
+        return words_in(self.library(crate).parent / "sources") == [self.library_sum(crate)]
 
     def whole_sum(self):
         """The sum of the sources of all crates."""
