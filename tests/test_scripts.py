@@ -45,21 +45,10 @@ CHANGE_BACK = "echo text of zh_low > $LOW"
 AT_WORK = "until grep -q ' of ' log 2> /dev/null; do sleep 0.1; done"
 
 
-def put_script(path, text="#!/bin/sh\n"):
-    path.parent.mkdir(exist_ok=True)
-    path.write_text(text)
-    path.chmod(0o755)
-
-
 @pytest.fixture
-def top(tmp_path):
-    """The small copy's folder."""
-    return tmp_path / "a checkout"
-
-
-@pytest.fixture
-def sh(top):
+def sh(tmp_path):
     """Runs commands in the small copy: what they say, what they complain of, and their status."""
+    top = tmp_path / "a checkout"
     for crate in ("zh_bench", "zh_low", "zhcount"):
         (top / "crates" / crate / "src").mkdir(parents=True)
         (top / "crates" / crate / "src/lib.rt").write_text(f"text of {crate}\n")
@@ -67,7 +56,9 @@ def sh(top):
     for it in ("scripts", "tests/edited"):
         shutil.copytree(TOP / it, top / it)
     shutil.copy(TOP / "Makefile", top)
-    put_script(top / "bin/rt", RT)
+    (top / "bin").mkdir()
+    (top / "bin/rt").write_text(RT)
+    (top / "bin/rt").chmod(0o755)
     environment = {**os.environ, "ROOM": str(top), "LOW": "crates/zh_low/src/lib.rt", "PATH": f"{top}/bin:{os.environ['PATH']}"}
     environment.pop("ZHCOUNT", None)
 
@@ -162,17 +153,23 @@ def test_sources_that_change_under_a_build_are_not_proved(built):
     assert built(f"make -s build > log; {RUN}") == ("proved new text: 1 open\n", "", 0)
 
 
-def test_a_program_that_was_there_is_not_noted_as_proved(built, top):
+def test_a_program_that_was_there_is_not_noted_as_proved(built):
     """It is of other sources, and rt ci leaves it in place."""
-    for name in ("tests/edits", "scripts/test-needs", "scripts/lint", "bin/python"):
-        put_script(top / name)
+    built("for it in tests/edits scripts/test-needs scripts/lint bin/python; do cp /bin/true $it; done")
     said = built(f"{CHANGE}; (cd crates/zhcount && rt run); {CHANGE_BACK}; PYTHON=$ROOM/bin/python make -s test")
     assert said[2] == 0, said
     assert built(RUN) == (PROVED, "", 0)
 
 
 @pytest.mark.parametrize("target, words", [("shape", "tests/pages check"), ("refused", "-m pytest -v tests/test_refused.py")])
-def test_another_python_is_taken(target, words, sh, top):
-    put_script(top / "bin/python", '#!/bin/sh\necho "$@" >> "$ROOM/words"\n')
-    put_script(top / "scripts/test-needs")
-    assert sh(f'make -s {target} PYTHON="$ROOM/bin/python"; cat words')[0] == f"{words}\n"
+def test_another_python_is_taken(target, words, sh):
+    said = sh(f'cp /bin/true scripts/test-needs; cp /bin/echo bin/python; make -s {target} PYTHON="$ROOM/bin/python"')
+    assert said[0] == f"{words}\n"
+
+
+@pytest.mark.long
+def test_the_wrong_bodies_of_what_changed_are_refused():
+    """Over what `rt ci` has proved."""
+    words = ["nice", "-n", "10", TOP / "tests/edits"]
+    ran = subprocess.run(words, stdin=subprocess.DEVNULL, stdout=subprocess.PIPE, stderr=subprocess.STDOUT, text=True)
+    assert ran.returncode == 0, ran.stdout

@@ -1,7 +1,6 @@
-"""The shape of the crates: one name is one thing, a line can be read without scrolling, and there is no code that no clause sees."""
+"""The shape of the crates: one name is one thing, and there is no code that no clause sees."""
 import re
 
-MOST_CHARACTERS = 140
 # Each opening and each append can end in ways of its own, so more crates than one have these types.
 SHARED = {"OpenFault", "AppendFault"}
 TYPE = re.compile(r"^\s*pub (?:struct|enum|trait|type) (\w+)", re.M)
@@ -17,13 +16,6 @@ def names(tree):
     for name, crate in [*((it.name, it.crate) for it in tree.definitions.values()), *types]:
         crates.setdefault(name, {})[crate] = None
     yield from (f"{name} is defined in {' and '.join(it)}" for name, it in crates.items() if len(it) > 1 and name not in SHARED)
-
-
-def characters(tree):
-    for _, path, text in [*tree.files("specs/**/*.antt"), *tree.files("src/**/*.rt")]:
-        for number, line in enumerate(text.splitlines(), 1):
-            if len(line) > MOST_CHARACTERS:
-                yield f"{path}:{number} has {len(line)} characters, and not at most {MOST_CHARACTERS}"
 
 
 def unread(tree):

@@ -27,16 +27,13 @@ class Scope:
 
     def read(self, line):
         """Takes in an import, if the line is one."""
-        found = USE.match(line.strip())
-        if not found:
-            return False
-        path, listed, alias = found.groups()
-        if listed is None:
-            self.modules[alias or path.rsplit(".", 1)[1]] = path
-        for item in filter(None, (it.strip() for it in (listed or "").split(","))):
-            name, _, other = item.partition(" as ")
-            self.names[other or name] = f"{path}.{name}"
-        return True
+        if found := USE.match(line.strip()):
+            path, listed, alias = found.groups()
+            if listed is None:
+                self.modules[alias or path.rsplit(".", 1)[1]] = path
+            for name, other in re.findall(r"([^\s,]+)(?: as ([^\s,]+))?", listed or ""):
+                self.names[other or name] = f"{path}.{name}"
+        return bool(found)
 
     def full(self, word):
         """The full name of a word, dots and all; None if it is no name from elsewhere."""
