@@ -74,7 +74,7 @@ def tmp_path(tmp_path):
 def program():
     """The program's path."""
     if not os.access(PROGRAM, os.X_OK):
-        pytest.fail(f"there is no program {PROGRAM}: make build makes it")
+        pytest.fail(f"the program {PROGRAM} does not exist: make build makes it")
     return PROGRAM
 
 

@@ -23,7 +23,7 @@ OTHERS = {
     "still proved": PROVED,
     "no longer applies: src/lib.rt has an 'old:' text 0 times": {
         "zh_low/third.adds_one": ("old: let third = next(n);", "new: let third = n;")},
-    "no longer applies: there is no function stepping": {
+    "no longer applies: the function stepping does not exist": {
         "zh_low/step_of_four": ("# refused at: stepping", "old: STEP: u64 = 1;", "new: STEP: u64 = 4;")},
     "no longer applies": {"zh_low/second.is_cut_off": ("old: let first = next(n);", "new: let first = next(n;")},
     "refused only elsewhere: it changes no function": {"zh_low/step_of_two": ("old: STEP: u64 = 1;", "new: STEP: u64 = 2;")},
@@ -88,7 +88,7 @@ def test_libraries(tree):
     """Libraries that somebody has just built are taken where the sources are as they were before."""
     note = tree.top / "crates/zh_low/out/rlib/sources"
     note.unlink()
-    tree.says(0, "the sources changed meanwhile", words=["--proved", "0"])
+    tree.says(0, "the sources changed", words=["--proved", "0"])
     assert not note.exists()
     tree.says(0, words=["--proved", tree.run("--sum").stdout.strip()])
     assert note.exists()

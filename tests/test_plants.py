@@ -86,7 +86,7 @@ def of_desks(test, folder, says):
     in_vain = says.partition("not after: ")[2]
     if in_vain:
         return {"DESKS": str(folder), "IN_VAIN": in_vain}
-    # many nights, what has to happen at once, or what soon follows
+    # many nights, what must happen at once, or what soon follows
     return {"DESKS": str(folder), "PATIENCE": "90" if test.startswith("test_stops.py") else "30" if says == "not after" else "60"}
 
 

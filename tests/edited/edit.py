@@ -39,7 +39,7 @@ class Edit:
             files = [(it.relative_to(self.crate), it.read_text(encoding="utf-8")) for it in sorted((self.crate / "src").rglob("*.rt"))]
             meant = [it for file, text in files for it in functions_of(str(file), text) if it.name == name and of in ("", it.of)]
             if not meant:
-                raise NoLongerApplies(f"there is no function {path}")
+                raise NoLongerApplies(f"the function {path} does not exist")
             found += meant
         return found
 
@@ -59,7 +59,7 @@ class Edit:
         texts = dict(texts)
         for file, old, new in self.changes:
             if file not in texts and not (self.crate / file).is_file():
-                raise NoLongerApplies(f"there is no {file}")
+                raise NoLongerApplies(f"{file} does not exist")
             text = texts[file] if file in texts else (self.crate / file).read_text(encoding="utf-8")
             if text.count(old) != 1:
                 raise NoLongerApplies(f"{file} has an 'old:' text {text.count(old)} times, and not once")

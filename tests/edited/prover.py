@@ -19,7 +19,7 @@ SAID = {"stdin": subprocess.DEVNULL, "stdout": subprocess.PIPE, "stderr": subpro
 
 
 class Prover:
-    """The prover on so many copies of crates at once, which are put into this folder."""
+    """The prover, on as many copies of crates at once as there are lanes. The copies are put into this folder."""
 
     def __init__(self, tree, lanes, folder=None):
         said = subprocess.run(["rt", "doc"], stdout=subprocess.PIPE, text=True, check=True).stdout
@@ -72,7 +72,7 @@ class Prover:
 
 
 def build_libraries(tree, crates, jobs, say):
-    """Has the toolchain build the libraries below these crates that are not there as their sources stand. Whether all are there now."""
+    """Has the toolchain build those libraries below these crates that are not built from the sources of now. Whether all are, at the end."""
     for name in tree.below(*crates):
         if tree.is_noted(name):
             continue
@@ -97,5 +97,5 @@ def free_memory():
     try:
         # (the first number of memory.stat is what can't be given back)
         return min(free, int((group / "memory.max").read_text()) - int((group / "memory.stat").read_text().split()[1]))
-    except (OSError, ValueError):  # where there is no limit
+    except (OSError, ValueError):  # the group has no limit
         return free

@@ -1,4 +1,4 @@
-"""The crates of a repository: what each stands on, where its library is, and the sums of what its wrong bodies are refused for."""
+"""The crates of a repository: which others each uses, where its library is, and the sums of what its wrong bodies are refused for."""
 import hashlib
 import re
 import subprocess
@@ -31,7 +31,7 @@ class Tree:
         return self.top / "crates" / crate
 
     def below(self, *crates):
-        """The crates that these stand on, directly or not, lowest first; none of these, unless another stands on it."""
+        """The crates that these use, directly or not, lowest first; none of these, unless another uses it."""
         found = {used for it in crates for used in self.uses[it]}
         for name in reversed(self.named):  # crates.txt lists a crate after those that it uses
             found.update(self.uses[name] if name in found else ())
@@ -115,7 +115,7 @@ class Tree:
         return [it for it in self.with_edits if passed.get(it) != sums[it]]
 
     def keep_passed(self, crate, sum):
-        # (another run may have kept others meanwhile)
+        # (another run may have kept others since)
         kept = {**self.passed(), crate: sum}
         text = "".join(f"{it} {kept[it]}\n" for it in self.with_edits if it in kept)
         (self.top / "tests/edits.passed").write_text(text, encoding="utf-8")

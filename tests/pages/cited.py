@@ -28,7 +28,7 @@ def promised(tree):
         for line, entry in ((line, it.strip()) for line, row in rows for it in row["Carried by"].split(";")):
             names, others = re.findall("`([^`]+)`", entry), re.sub(r"`[^`]+`|\([^)]*\)", "", entry)
             clauses = {*re.findall(r"\w+", others)}
-            faults += [] if names else [f"{PROVED}:{line}: there is no function in '{entry}'"]
+            faults += [] if names else [f"{PROVED}:{line}: '{entry}' names no function"]
             for name in names:
                 meant = [it for it in by_name[name] if it.crate in crates] or by_name[name] * ("::" in name)
                 gone = [f"has no clause {it}" for it in clauses - {it.name for it in meant}] if meant else ["is not there"]
@@ -54,7 +54,7 @@ def things(tree):
 
     for page in tree.pages:
         for number, line in enumerate(prose_of(tree.read(page)).splitlines(), 1):
-            yield from (f"{page}:{number}: there is no {it}" for it in re.findall(r"`([^`\s]+)`", line) if not is_there(it, page))
+            yield from (f"{page}:{number}: {it} does not exist" for it in re.findall(r"`([^`\s]+)`", line) if not is_there(it, page))
 
 
 def places(tree):

@@ -148,6 +148,6 @@ def run_group(tree, group):
 def examples(tree):
     """What is not as a page shows it; the groups are run side by side."""
     if not os.access(PROGRAM, os.X_OK):
-        return [f"there is no program {PROGRAM}"]
+        return [f"the program {PROGRAM} does not exist: make build makes it"]
     with ThreadPoolExecutor() as pool:
         return [fault for found in pool.map(lambda it: run_group(tree, it), GROUPS) for fault in found]

@@ -17,7 +17,7 @@ def long_lines(tree):
 
 
 def features(section):
-    """What has to be the same in both languages, by its name."""
+    """What must be the same in both languages, by its name."""
     text = "\n".join(section.lines)
     prose = prose_of(text)
     plain = re.sub(r"\]\([^()\s]+\)", "]", CODE.sub("", prose))

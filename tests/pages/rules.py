@@ -1,4 +1,4 @@
-"""The table of the rules: each with a violation that it has to see, which is planted in a copy of the tree."""
+"""The table of the rules, each with a violation that it must see, which is planted in a copy of the tree."""
 from collections import namedtuple
 from itertools import chain
 
@@ -32,11 +32,11 @@ RULES = [
     Rule("carried", "each function and clause of PROVED's column 'Carried by' is there", lambda tree: cited.promised(tree)[1],
          [(PROVED, END, "\n## `zh_disk`\n\n| What | Carried by |\n|---|---|\n| a | `planted` |\n| b | as above |\n"
            "| c | `Disk::read_at` planted |\n")],
-         ["planted is not there", "there is no function in 'as above'", "Disk::read_at has no clause planted"]),
+         ["planted is not there", "'as above' names no function", "Disk::read_at has no clause planted"]),
     Rule("things", "each file, edit, case, crate and function in backticks is there", cited.things,
          [(FAQ, END, "\n`planted.edit`, `zh_planted`, `crates/planted`, `src/planted.rt`, `Planted::gone`\n"),
           (cited.ARCHITECTURE, END, "\n`planted_name`\n")],
-         [f"there is no {it}"
+         [f"{it} does not exist"
           for it in ("planted.edit", "zh_planted", "crates/planted", "src/planted.rt", "Planted::gone", "planted_name")]),
     Rule("places", "the file of a link defines the function, type or definition that the link names", cited.places,
          [(FAQ, END, "\n[`open_gate`](../crates/zh_disk/src/disk.rt), [`Disk::planted`](../crates/zh_disk/src/disk.rt)\n")],

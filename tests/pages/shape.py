@@ -1,4 +1,4 @@
-"""The shape of the crates: one name is one thing, and there is no code that no clause sees."""
+"""The shape of the crates: one name is one thing, and a clause sees all code."""
 import re
 
 # Each opening and each append can end in ways of its own, so more crates than one have these types.

@@ -19,8 +19,8 @@ Clause = namedtuple("Clause", "crate path function name text")
 
 
 class Scope:
-    """What the names of a file stand for: full names below 'Rattle.', by the name or the alias that the file uses. And
-    the comment at the head of the file."""
+    """What the names of a file mean: full names below 'Rattle.', by the name or the alias that the file uses. And the comment at the head
+    of the file."""
 
     def __init__(self, head=""):
         self.names, self.modules, self.head = {}, {}, head
@@ -88,7 +88,7 @@ def block_at(code, start):
 
 
 class Tree:
-    """All pages and crates of a repository, as they stand when they are read."""
+    """All pages and crates of a repository."""
 
     def __init__(self, top):
         self.top = Path(top)
