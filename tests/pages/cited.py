@@ -38,8 +38,8 @@ def promised(tree):
 
 
 def things(tree):
-    """Files, edits, cases, crates and functions that a page names in backticks and that are not there; and names of two words
-    on the page of the crates that are not in any."""
+    """Files, edits, cases, crates and functions that a page names in backticks and that do not exist; and names of two words in ARCHITECTURE
+    that are in no crate."""
     functions = {it.function.split("for ")[-1] for it in tree.clauses}
     crates = "\n".join(text for folder in ("src", "specs", "proofs") for *_, text in tree.files(f"{folder}/**/*.*t"))
 
@@ -62,9 +62,9 @@ def places(tree):
     for page in tree.pages:
         for number, line in enumerate(tree.read(page).splitlines(), 1):
             for name, link in LINKED.findall(line):
-                path = os.path.normpath(f"{os.path.dirname(page)}/{link}")
-                if name.split("::")[-1] not in DEFINED.findall(tree.read(path)):
-                    yield f"{page}:{number}: {path} does not define {name}"
+                file = (tree.top / page).parent / link
+                if file.exists() and name.split("::")[-1] not in DEFINED.findall(file.read_text(encoding="utf-8")):
+                    yield f"{page}:{number}: {link} does not define {name}"
 
 
 def lost_links(folder, patterns=("**/*.md", "**/*.html")):
