@@ -72,7 +72,7 @@ class Prover:
 
 
 def build_libraries(tree, crates, jobs, say):
-    """Has the toolchain build the libraries below these crates that are not yet made from the sources of now. Whether all are in the end."""
+    """Has the toolchain build the libraries below these crates that are not made from the sources of now. Whether all are in the end."""
     for name in tree.below(*crates):
         if tree.is_noted(name):
             continue

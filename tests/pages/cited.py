@@ -38,8 +38,8 @@ def promised(tree):
 
 
 def things(tree):
-    """Files, edits, cases, crates and functions that a page names in backticks and that do not exist; and names of two words in ARCHITECTURE
-    that are in no crate."""
+    """Files, edits, cases, crates and functions that a page names in backticks and that do not exist; and names of two words that
+    ARCHITECTURE has and no crate."""
     functions = {it.function.split("for ")[-1] for it in tree.clauses}
     crates = "\n".join(text for folder in ("src", "specs", "proofs") for *_, text in tree.files(f"{folder}/**/*.*t"))
 
