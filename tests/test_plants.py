@@ -37,7 +37,7 @@ FORMS = [{"old", "new", "seen by", "says"}, {"old", "new", "changes nothing"}]
 # How a test fails that sees a mistake: by what it compares, or by a file or an end that does not come. Other faults are its own.
 ERRORS = r"AssertionError|Failed|FileNotFoundError|PermissionError|BrokenPipeError|subprocess\.\w+"
 SEEN = re.compile(rf"= FAILURES =(?:.|\n)*?^E   (?:(?:{ERRORS}): (.*)(?:\nE   (assert .*))?|(assert .*))", re.M)
-LATE = re.compile(r"not after [\d.]+ seconds|.* timed out after [\d.]+ seconds")
+LATE = re.compile(r"not after [\d.]+ seconds|^.* timed out after [\d.]+ seconds")
 
 
 class Part(namedtuple("Part", "name folder whole environment forms marks")):
@@ -152,7 +152,7 @@ def judge(said, says):
     assert said is not None, "the test does not see it"
     reported = LATE.sub("not after", said, 1)
     assert reported == said or says.startswith("not after"), f"the test waited in vain, which counts for nothing here: {said}"
-    assert says in reported, f"the test reports something else: {reported}"
+    assert says in reported, f"the test reports something else: {reported[:1000]}"  # a page may be among it
 
 
 @pytest.mark.plants
