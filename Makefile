@@ -80,7 +80,7 @@ folder-bodies:
 	@$(call pytest,all) tests -m plants -k "without_a_mistake or real_file- $(if $(BODIES),and ($(BODIES)))"
 
 documents:
-	@"$(PYTHON)" tests/pages run
+	@"$(PYTHON)" tests/pages check examples
 
 shape:
 	@"$(PYTHON)" tests/pages check

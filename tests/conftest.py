@@ -52,14 +52,10 @@ def pytest_collection_modifyitems(items):
 
 
 def pytest_terminal_summary(terminalreporter):
-    """Each test that is skipped or was run again is named, with the reason: none goes unsaid. What was seen of all mistakes is kept."""
+    """Each test that was run again is named, with what it reported. What was seen of all mistakes is kept."""
     passed = {it.nodeid for it in terminalreporter.stats.get("passed", [])}
     if any("test_plants.py::test_mistake" in it for it in passed):
         importlib.import_module("test_plants").keep_sums(passed)
-    skipped = terminalreporter.stats.get("skipped", [])
-    terminalreporter.section(f"{len(skipped)} skipped")
-    for it in skipped:
-        terminalreporter.line(f"skipped: {it.nodeid}: {it.longrepr[2] if isinstance(it.longrepr, tuple) else it.longrepr}")
     again = terminalreporter.stats.get("rerun", [])
     terminalreporter.section(f"{len(again)} run again")
     for it in again:
@@ -78,7 +74,7 @@ def tmp_path(tmp_path):
 def program():
     """The program's path."""
     if not os.access(PROGRAM, os.X_OK):
-        pytest.fail(f"there is no program {PROGRAM}: make build makes it")
+        pytest.fail(f"the program {PROGRAM} does not exist: make build makes it")
     return PROGRAM
 
 

@@ -11,9 +11,10 @@ If a mistake can't change anything that a person sees, it has 'changes nothing:'
 test is run for it. As a control, each test that a plant names must pass on a copy without a mistake.
 
 A run that sees all mistakes of desks or of the page writes the sum of their files to tests/plants.passed. While the sum stays,
-`make test` tries IN_TURN of them, other ones after each commit; with another sum it tries all. Those of tests/real_file are slow."""
+`make test` tries IN_TURN of them, different ones after each commit; if the sum changes, it tries all. Those of tests/real_file are slow."""
+import contextlib
 import hashlib
-import importlib
+import itertools
 import os
 import re
 import shutil
@@ -25,7 +26,6 @@ import pytest
 
 import seals
 from edited.edit import entries_of
-from edited.tree import Tree
 from places import TOP
 
 PASSED = TOP / "tests/plants.passed"
@@ -37,12 +37,12 @@ FORMS = [{"old", "new", "seen by", "says"}, {"old", "new", "changes nothing"}]
 # How a test fails that sees a mistake: by what it compares, or by a file or an end that does not come. Other faults are its own.
 ERRORS = r"AssertionError|Failed|FileNotFoundError|PermissionError|BrokenPipeError|subprocess\.\w+"
 SEEN = re.compile(rf"= FAILURES =(?:.|\n)*?^E   (?:(?:{ERRORS}): (.*)(?:\nE   (assert .*))?|(assert .*))", re.M)
-LATE = re.compile(r"not after [\d.]+ seconds|.* timed out after [\d.]+ seconds")
+LATE = re.compile(r"not after [\d.]+ seconds|^.* timed out after [\d.]+ seconds")
 
 
-class Part(namedtuple("Part", "name folder whole fault forms marks")):
-    """What the plants of a folder of tests are about: the folder whose files are changed, the one that is copied for it, what a test
-    reports that fails on the copy, or None if it passes, and the forms and the marks of its plants."""
+class Part(namedtuple("Part", "name folder whole environment forms marks")):
+    """What the plants of a folder of tests are about: the folder whose files are changed, the one that is copied for it, what a test finds
+    in its environment so that it runs on the copy, and the forms and the marks of its plants."""
 
     def plants(self):
         """The fields of each plant, by its name, and the file that it changes."""
@@ -58,7 +58,7 @@ class Part(namedtuple("Part", "name folder whole fault forms marks")):
 
     def sum(self):
         """A sum of the files that a mistake is seen by: the scripts, their tests, and what all tests share."""
-        folders = [(TOP / self.folder).parent if self.name == "page" else TOP / self.folder, TOP / "tests" / self.name]
+        folders = [TOP / self.folder.removesuffix("/parts"), TOP / "tests" / self.name]
         found = [it for folder in folders for it in folder.rglob("*") if it.is_file() and not UNREAD & {it.suffix, *it.parts}]
         files = sorted([*found, TOP / "tests/test_plants.py", TOP / "tests/conftest.py"])
         return hashlib.sha256(repr([(str(it.relative_to(TOP)), it.read_bytes()) for it in files]).encode()).hexdigest()[:32]
@@ -69,73 +69,37 @@ class Part(namedtuple("Part", "name folder whole fault forms marks")):
         shutil.copytree(source, room / "copy" / self.whole, symlinks=True, ignore=shutil.ignore_patterns("out", ".git"))
         return room / "copy" / self.folder
 
-
-# What a test of each part reports on the copy of a folder.
-
-
-def fault_of_pytest(part, test, top, environment):
-    words = [sys.executable, "-m", "pytest", "-n0", "-x", "--tb=short", "-p", "no:cacheprovider", f"tests/{part}/{test}"]
-    done = subprocess.run(words, cwd=top, env={**environment, "CI": "has lines of any length"}, stdout=subprocess.PIPE,
-                          stderr=subprocess.STDOUT, text=True)
-    if done.returncode == 0:
-        return None
-    found = SEEN.search(done.stdout)
-    assert done.returncode == 1 and found, f"the test has a fault of its own: {done.stdout[-2000:]}"
-    return ": ".join(filter(None, found.groups()))
+    def fault(self, test, folder, says=""):
+        """What a test reports on the copy, or None if it passes."""
+        words = [sys.executable, "-m", "pytest", "-n0", "-x", "--tb=short", "-p", "no:cacheprovider", f"tests/{self.name}/{test}"]
+        environment = {**os.environ, **self.environment(test, folder, says), "CI": "has lines of any length"}
+        done = subprocess.run(words, cwd=TOP, env=environment, stdout=subprocess.PIPE, stderr=subprocess.STDOUT, text=True)
+        if done.returncode == 0:
+            return None
+        found = SEEN.search(done.stdout)
+        assert done.returncode == 1 and found, f"the test has a fault of its own: {done.stdout[-2000:]}"
+        return ": ".join(filter(None, found.groups()))
 
 
-def of_desks(test, folder, room, request):
+def of_desks(test, folder, says):
     """A mistake may have the test wait in vain: where it does not say for what, the test waits for nothing long."""
-    request.getfixturevalue("program")
-    says = request.node.callspec.params.get("plant", {}).get("says", "")
-    waits = {"IN_VAIN": says.partition("not after: ")[2]}
-    if not waits["IN_VAIN"]:  # many nights, what has to happen at once, or what soon follows
-        waits["PATIENCE"] = "90" if test.startswith("test_stops.py") else "30" if says == "not after" else "60"
-    return fault_of_pytest("desks", test, TOP, {**waits, **os.environ, "DESKS": str(folder)})
+    in_vain = says.partition("not after: ")[2]
+    if in_vain:
+        return {"DESKS": str(folder), "IN_VAIN": in_vain}
+    # many nights, what must happen at once, or what soon follows
+    return {"DESKS": str(folder), "PATIENCE": "90" if test.startswith("test_stops.py") else "30" if says == "not after" else "60"}
 
 
-def of_the_operating_system(test, folder, room, request):
-    """With the program of the copy, compiled unproved."""
-    top = folder.parents[1]
-    program = subprocess.run([top / "scripts/program"], stdout=subprocess.PIPE, text=True, check=True).stdout.strip()
-    return fault_of_pytest("real_file", test, top, {**os.environ, "ZHCOUNT": program})
-
-
-class Reports:
-    """A plugin of pytest that keeps what the first test reports that fails, and how many pass."""
-    said, passed = None, 0
-
-    def pytest_runtest_logreport(self, report):
-        self.passed += report.when == "call" and report.passed
-        if report.failed and self.said is None:
-            message = getattr(getattr(report.longrepr, "reprcrash", None), "message", str(report.longrepr))
-            kind, _, rest = message.partition(": ")
-            assert report.when == "call" and kind == "AssertionError", f"the test has a fault of its own: {message}"
-            self.said = rest.splitlines()[0][:1000]  # a page may be among it
-
-
-@pytest.fixture(scope="session")
-def browsers():
-    """A browser for each language, which stays for all mistakes that a process tries, since it takes long to start."""
-    started = importlib.import_module("browser").started
-    drivers = {}
-    yield lambda language: drivers.get(language) or drivers.setdefault(language, started(language))
-    for it in drivers.values():
-        it.quit()
-
-
-def of_the_page(test, folder, room, request):
-    """The test runs in this process, so that it takes the browser that is there."""
-    page, reports, case = room / "index.html", Reports(), importlib.import_module("case").Case
+def of_the_page(test, folder, says):
+    page = folder.parent / "index.html"
     page.write_text(seals.SEAL.sealed(folder))
-    words = ["-x", "-o", "addopts=", "-n0", "-p", "no:terminal", "-p", "no:cacheprovider", "-p", "no:faulthandler", "-s"]
-    with pytest.MonkeyPatch.context() as patch:
-        patch.setattr(case, "path", page)
-        patch.setattr(case, "starts", request.getfixturevalue("browsers"))
-        patch.setattr(case, "ends", lambda driver: None)
-        pytest.main([*words, f"{TOP}/tests/page/{test}"], plugins=[reports])
-    assert reports.said or reports.passed, "no test was run"
-    return reports.said
+    return {"PAGE": str(page)}
+
+
+def of_the_operating_system(test, folder, says):
+    """The program of the copy is compiled unproved."""
+    ran = subprocess.run([folder.parents[1] / "scripts/program"], stdout=subprocess.PIPE, text=True, check=True)
+    return {"ZHCOUNT": ran.stdout.strip()}
 
 
 PARTS = [
@@ -152,93 +116,77 @@ def kept_sums():
 
 def mistakes():
     """All of them. Those of a part that is as it was when all were seen are slow, but for those in turn."""
-    found, kept, commits = [], kept_sums(), Tree(TOP).commits()
+    counted = subprocess.run(["git", "rev-list", "--count", "HEAD"], cwd=TOP, capture_output=True, text=True).stdout
+    found, kept, commits = [], kept_sums(), int(counted or 0)
     for part in PARTS:
-        plants, tried = part.plants(), kept.get(part.name) == part.sum()
-        turns = -(-len(plants) // IN_TURN)
+        plants = part.plants()
+        turns = -(-len(plants) // IN_TURN) if kept.get(part.name) == part.sum() else 1
         for at, (name, plant) in enumerate(plants.items()):
-            marks = (*part.marks, pytest.mark.slow) if tried and (at - commits) % turns else part.marks
+            marks = (*part.marks, pytest.mark.slow) if (at - commits) % turns else part.marks
             found.append(pytest.param(part, plant, id=f"{part.name}-{name}", marks=marks))
     return found
 
 
 def keep_sums(passed):
     """Writes the sum of each part of whose mistakes all are among the tests that passed."""
-    kept = kept_sums()
-    for part in PARTS:
-        if passed.issuperset(f"tests/test_plants.py::test_mistake[{part.name}-{it}]" for it in part.plants()):
-            kept[part.name] = part.sum()
-    if kept != kept_sums():
-        PASSED.write_text("".join(f"{name} {kept[name]}\n" for name in sorted(kept)))
+    seen = {part.name: part.sum() for part in PARTS
+            if passed.issuperset(f"tests/test_plants.py::test_mistake[{part.name}-{it}]" for it in part.plants())}
+    if seen:
+        PASSED.write_text("".join(f"{name} {it}\n" for name, it in sorted({**kept_sums(), **seen}.items())))
 
 
 def controls():
     """Each test that a plant names, once. `make test` takes one of each file: there the others run on the same text anyway."""
     found = []
     for part in PARTS:
-        files = set()
-        for test in sorted({it["seen by"] for it in part.plants().values() if "seen by" in it}):
-            file = test.partition("::")[0]
-            marks = (*part.marks, pytest.mark.slow) if file in files else part.marks
-            files.add(file)
-            found.append(pytest.param(part, test, id=f"{part.name}-{test}", marks=marks))
+        tests = sorted({it["seen by"] for it in part.plants().values() if "seen by" in it})
+        for _, of_a_file in itertools.groupby(tests, lambda it: it.partition("::")[0]):
+            for at, test in enumerate(of_a_file):
+                marks = (*part.marks, pytest.mark.slow) if at else part.marks
+                found.append(pytest.param(part, test, id=f"{part.name}-{test}", marks=marks))
     return found
-
-
-def told(said):
-    """What a test reports, without the time for which it waited."""
-    return LATE.sub("not after", said, 1)
-
-
-def waited_in_vain(said, says):
-    """Whether the test only waited for something that did not come, although the plant does not say for what."""
-    return said is not None and bool(LATE.search(said)) and (not says.startswith("not after") or says not in told(said))
 
 
 def judge(said, says):
     """A fault counts if it is what the plant says. That nothing came for a while counts if the plant says so."""
     assert said is not None, "the test does not see it"
-    assert not waited_in_vain(said, says), f"the test waited in vain, which counts for nothing here: {said}"
-    assert says in told(said), f"the test reports something else: {told(said)}"
+    reported = LATE.sub("not after", said, 1)
+    assert reported == said or says.startswith("not after"), f"the test waited in vain, which counts for nothing here: {said}"
+    assert says in reported, f"the test reports something else: {reported[:1000]}"  # a page may be among it
 
 
 @pytest.mark.plants
 @pytest.mark.parametrize("part, plant", mistakes())
-def test_mistake(part, plant, tmp_path, request):
+def test_mistake(part, plant, tmp_path):
     folder = part.copied(tmp_path)
     path, = folder.rglob(plant["file"])
     text = path.read_text()
     assert text.count(plant["old"]) == 1, f"the right text is in {plant['file']} {text.count(plant['old'])} times, not once"
     path.write_text(text.replace(plant["old"], plant["new"]))
     if "seen by" in plant:
-        judge(part.fault(plant["seen by"], folder, tmp_path, request), plant.get("says", ""))
+        says = plant.get("says", "")
+        judge(part.fault(plant["seen by"], folder, says), says)
 
 
 @pytest.mark.plants
 @pytest.mark.parametrize("part, test", controls())
-def test_without_a_mistake(part, test, tmp_path, request):
-    assert part.fault(test, part.copied(tmp_path), tmp_path, request) is None
+def test_without_a_mistake(part, test, tmp_path):
+    assert part.fault(test, part.copied(tmp_path)) is None
 
 
 @pytest.mark.parametrize("said, says, fault", [
+    ("'1 stored 2' is not '1 stored 1'", "is not '1 stored 1'", None),
+    ("not after 15 seconds: a copy", "not after: a copy", None),
     (None, "", "does not see it"),
     ("'1 stored 2' is not '1 stored 1'", "another", "reports something else"),
+    ("not after 15 seconds: a copy", "not after: an answer", "reports something else"),
     ("not after 15 seconds: a copy", "", "waited in vain"),
     ("not after 15 seconds: a copy", "a copy", "waited in vain"),
     ("Command '['zhcount-desk']' timed out after 60 seconds", "", "waited in vain"),
-    ("not after 15 seconds: a copy", "not after: an answer", "waited in vain"),
 ])
-def test_what_does_not_count(said, says, fault):
-    with pytest.raises(AssertionError, match=fault):
+def test_what_counts(said, says, fault):
+    with pytest.raises(AssertionError, match=fault) if fault else contextlib.nullcontext():
         judge(said, says)
-
-
-@pytest.mark.parametrize("said, says", [
-    ("'1 stored 2' is not '1 stored 1'", "is not '1 stored 1'"),
-    ("not after 15 seconds: a copy", "not after: a copy"),
-])
-def test_what_counts(said, says):
-    judge(said, says)
 
 
 def test_kept_sums(tmp_path, monkeypatch):

@@ -1,8 +1,6 @@
-"""make run, make build and make test: which program is run, and called proved, and which crate is refused. A small copy of the
-repository with a stand-in for the toolchain is enough, so nothing is proved, and each test takes seconds. The copy is in a folder with a
-blank in its name."""
+"""make run, make build and make test: which program is run and called proved, and which crate is refused. They run on a small copy of
+the repository, in a folder with a blank in its name, with a stand-in for the toolchain: nothing is proved, and each test takes seconds."""
 import os
-import re
 import shutil
 import subprocess
 
@@ -28,7 +26,7 @@ case "$1" in
         chmod +x "out/${PWD##*/}"
         ;;
     try)
-        sleep "${COMPILES:-1}"
+        sleep 1
         [ ! -e "$ROOM/uncompiled" ] || { echo 'error: no such function'; exit 2; }
         [ ! -e "$ROOM/changed" ] || cp "$ROOM/changed" "$ROOM/$LOW"
         mkdir "$TMPDIR/native"
@@ -47,21 +45,10 @@ CHANGE_BACK = "echo text of zh_low > $LOW"
 AT_WORK = "until grep -q ' of ' log 2> /dev/null; do sleep 0.1; done"
 
 
-def put_script(path, text="#!/bin/sh\n"):
-    path.parent.mkdir(exist_ok=True)
-    path.write_text(text)
-    path.chmod(0o755)
-
-
 @pytest.fixture
-def top(tmp_path):
-    """The small copy's folder."""
-    return tmp_path / "a checkout"
-
-
-@pytest.fixture
-def sh(top):
+def sh(tmp_path):
     """Runs commands in the small copy: what they say, what they complain of, and their status."""
+    top = tmp_path / "a checkout"
     for crate in ("zh_bench", "zh_low", "zhcount"):
         (top / "crates" / crate / "src").mkdir(parents=True)
         (top / "crates" / crate / "src/lib.rt").write_text(f"text of {crate}\n")
@@ -69,7 +56,9 @@ def sh(top):
     for it in ("scripts", "tests/edited"):
         shutil.copytree(TOP / it, top / it)
     shutil.copy(TOP / "Makefile", top)
-    put_script(top / "bin/rt", RT)
+    (top / "bin").mkdir()
+    (top / "bin/rt").write_text(RT)
+    (top / "bin/rt").chmod(0o755)
     environment = {**os.environ, "ROOM": str(top), "LOW": "crates/zh_low/src/lib.rt", "PATH": f"{top}/bin:{os.environ['PATH']}"}
     environment.pop("ZHCOUNT", None)
 
@@ -89,16 +78,22 @@ def built(sh):
     return sh
 
 
-@pytest.mark.parametrize("target", ["install", "dist"])
-def test_where_nothing_is_built_it_is_said_what_comes_first(sh, target):
-    assert "run 'make build' first" in sh(f"make -s {target}")[1]
+@pytest.mark.parametrize("command, reason", [
+    ("make -s install", "run 'make build' first"),
+    ("make -s dist", "run 'make build' first"),
+    (f"touch uncompiled; {RUN}", "error: no such function"),
+    (f"echo new text > changed; {RUN}", "the sources changed"),
+    ("scripts/build zhcuont", "crate 'zhcuont'"),
+    ("scripts/sources below zhcuont", "crate 'zhcuont'"),
+])
+def test_what_can_not_be_done_is_refused_with_the_reason(sh, command, reason):
+    said, errors, status = sh(command)
+    assert said == "" and reason in errors and status
 
 
 def test_what_is_not_proved_runs_unproved_and_is_compiled_once(sh):
-    for is_at_work in (True, False):
-        said, errors, _ = sh(f"export COMPILES=5; {RUN}")  # seconds, of which some are shown as dots
-        assert said == UNPROVED and "make build" in errors and "proved=no" not in errors
-        assert bool(re.search(r"^\.+$", errors, re.M)) == is_at_work
+    said, errors, _ = sh(RUN)
+    assert said == UNPROVED and "make build" in errors and "proved=no" not in errors
     for change, times in ((":", 1), (CHANGE, 2), ("echo exit 1 >> crates/zhcount/out/unproved/zhcount", 3)):
         sh(change)
         assert sh(RUN)[0] == UNPROVED and sh("cat compiled")[0] == "x\n" * times
@@ -114,20 +109,12 @@ def test_a_slow_input_is_whole(sh, command, answers):
     assert sh(command)[0] == answers
 
 
-@pytest.mark.parametrize("change, reason", [
-    ("touch uncompiled", "error: no such function"), ("echo new text > changed", "the sources changed meanwhile"),
-])
-def test_what_is_not_compiled_from_these_sources_is_not_run_and_the_reason_is_shown(sh, change, reason):
-    said, errors, status = sh(f"{change}; {RUN}")
-    assert said == "" and reason in errors and status
-
-
 @pytest.mark.parametrize("change, answer", [
     (":", PROVED),
     (CHANGE, UNPROVED),
     (f"{CHANGE}; {RUN}; {CHANGE_BACK}", PROVED),
     ("touch -d '+1 hour' $LOW", PROVED),
-    ("echo changed text > crates/zh_bench/src/lib.rt", PROVED),  # zhcount does not stand on it
+    ("echo changed text > crates/zh_bench/src/lib.rt", PROVED),  # zhcount does not use it
     ("mkdir crates/zh_low/proofs; touch crates/zh_low/proofs/New.antt", UNPROVED),
     ("echo '# a remark' >> crates.txt", UNPROVED),
     ("sed -i 's/kit of/other &/' bin/rt", UNPROVED),  # another toolchain
@@ -151,7 +138,6 @@ def test_a_first_check_says_what_comes_before(sh):
     assert sh("make -s check CRATE=zh_low") == ("logic=proved\n", "", 0)
     said = sh("make -s check CRATE=zhcount")[0]
     assert said.startswith("crates below this one come first, 1 at most, ") and said.endswith("\nlogic=proved\n")
-    assert sh("make -s check CRATE=zhcount") == ("logic=proved\n", "", 0)
 
 
 def test_a_build_that_is_refused_names_its_crate(built):
@@ -162,39 +148,28 @@ def test_a_build_that_is_refused_names_its_crate(built):
 
 def test_sources_that_change_under_a_build_are_not_proved(built):
     _, errors, status = built(f"{CHANGE}; HELD=yes make -s build > log & {AT_WORK}; echo new text > $LOW; touch go; wait $!")
-    assert status and "the sources changed meanwhile" in errors
+    assert status and "the sources changed" in errors
     assert built(RUN)[0] == UNPROVED
     assert built(f"make -s build > log; {RUN}") == ("proved new text: 1 open\n", "", 0)
 
 
-@pytest.mark.parametrize("command", ["scripts/build zhcuont", "scripts/sources below zhcuont"])
-def test_a_crate_that_is_not_there_is_refused(sh, command):
-    said, errors, status = sh(command)
-    assert status == 2 and "no crate 'zhcuont'" in errors and "proved" not in said + errors
-    assert sh("ls crates")[0] == "zh_bench\nzh_low\nzhcount\n"
-
-
-def test_the_crates_below_one(sh):
-    assert sh("scripts/sources below zhcount")[0] == "zh_low\nzhcount\n"
-
-
-def test_a_program_that_was_there_is_not_noted_as_proved(built, top):
+def test_a_program_that_was_there_is_not_noted_as_proved(built):
     """It is of other sources, and rt ci leaves it in place."""
-    for name in ("tests/edits", "scripts/test-needs", "scripts/lint", "bin/python"):
-        put_script(top / name)
+    built("for it in tests/edits scripts/test-needs scripts/lint bin/python; do cp /bin/true $it; done")
     said = built(f"{CHANGE}; (cd crates/zhcount && rt run); {CHANGE_BACK}; PYTHON=$ROOM/bin/python make -s test")
     assert said[2] == 0, said
     assert built(RUN) == (PROVED, "", 0)
 
 
 @pytest.mark.parametrize("target, words", [("shape", "tests/pages check"), ("refused", "-m pytest -v tests/test_refused.py")])
-def test_another_python_is_taken(target, words, sh, top):
-    put_script(top / "bin/python", '#!/bin/sh\necho "$@" >> "$ROOM/words"\n')
-    put_script(top / "scripts/test-needs")
-    assert sh(f'make -s {target} PYTHON="$ROOM/bin/python"; cat words')[0] == f"{words}\n"
+def test_another_python_is_taken(target, words, sh):
+    said = sh(f'cp /bin/true scripts/test-needs; cp /bin/echo bin/python; make -s {target} PYTHON="$ROOM/bin/python"')
+    assert said[0] == f"{words}\n"
 
 
-def test_what_the_tests_need_is_there_before_they_begin(sh, top):
-    put_script(top / "scripts/test-needs", "#!/bin/sh\nsleep 1; echo needs\n")
-    put_script(top / "scripts/test", "#!/bin/sh\necho test\n")
-    assert sh("make -s -j 8 test-needs test")[0] == "needs\ntest\n"
+@pytest.mark.long
+def test_the_wrong_bodies_of_what_changed_are_refused():
+    """Over what `rt ci` has proved."""
+    words = ["nice", "-n", "10", TOP / "tests/edits"]
+    ran = subprocess.run(words, stdin=subprocess.DEVNULL, stdout=subprocess.PIPE, stderr=subprocess.STDOUT, text=True)
+    assert ran.returncode == 0, ran.stdout

@@ -32,51 +32,43 @@ class Edit:
         self.name, self.crate, self.text = name, crate, text
 
     def callers(self):
-        """The functions that the edit's lines '# refused at' name, as `row_sums` or `Office::store`."""
+        """The functions that the edit's lines '# refused at' name, for example `row_sums` or `Office::store`."""
         found = []
-        for path in re.findall(r"(?m)^(?:# )?refused at: *`?([\w:]+)`?", self.text):
+        for path in re.findall(r"(?m)^# refused at: ([\w:]+)$", self.text):
             of, _, name = path.rpartition("::")
             files = [(it.relative_to(self.crate), it.read_text(encoding="utf-8")) for it in sorted((self.crate / "src").rglob("*.rt"))]
             meant = [it for file, text in files for it in functions_of(str(file), text) if it.name == name and of in ("", it.of)]
             if not meant:
-                raise NoLongerApplies(f"there is no function {path}")
+                raise NoLongerApplies(f"the function {path} does not exist")
             found += meant
         return found
 
     @cached_property
     def changes(self):
         """The file, the old text and the new one of each change."""
-        last, found = {"file": "", "old": ""}, []
-        for key, text in re.findall(r"(?m)^(file|old|new): ?(.*)", self.text):
-            if key == "new" and not (last["file"] and last["old"]):
-                raise NoLongerApplies("a 'new:' stands before any 'file:' or 'old:'")
-            if key == "new":
-                found.append((last["file"].strip(), last["old"], text))
-                last["old"] = ""
-            else:
-                last[key] = text
-        if not found:
-            raise NoLongerApplies("it has no 'old:' and 'new:'")
+        file, found = "", []
+        for path, old, new in re.findall(r"(?m)^(?:file: *(.*)|old: ?(.*)\nnew: ?(.*))", self.text):
+            file = path or file
+            found += [] if path else [(file, old, new)]
+        if not found or not all(file and old for file, old, _ in found):
+            raise NoLongerApplies("it has no 'file:', 'old:' and 'new:'")
         return found
 
     def applied(self, texts):
         """The texts, by file, after this edit. A text that is lacking is read from the crate."""
         texts = dict(texts)
         for file, old, new in self.changes:
-            if file not in texts:
-                if not (self.crate / file).is_file():
-                    raise NoLongerApplies(f"there is no {file}")
-                texts[file] = (self.crate / file).read_text(encoding="utf-8")
-            if texts[file].count(old) != 1:
-                raise NoLongerApplies(f"{file} has an 'old:' text {texts[file].count(old)} times, and not once")
-            if old == new:
-                raise NoLongerApplies("an 'old:' is its 'new:'")
-            texts[file] = texts[file].replace(old, new)
+            if file not in texts and not (self.crate / file).is_file():
+                raise NoLongerApplies(f"{file} does not exist")
+            text = texts[file] if file in texts else (self.crate / file).read_text(encoding="utf-8")
+            if text.count(old) != 1:
+                raise NoLongerApplies(f"{file} has an 'old:' text {text.count(old)} times, and not once")
+            texts[file] = text.replace(old, new)
         return texts
 
     @cached_property
     def places(self):
-        """For each change the innermost function that it stands in, if it does, and whether it stands in the body."""
+        """For each change the innermost function that it is in, if there is one, and whether it is in the body."""
         found = []
         for file, old, _ in self.changes:
             text = (self.crate / file).read_text(encoding="utf-8")
@@ -93,5 +85,5 @@ class Edit:
 
     @property
     def stands_alone(self):
-        """Whether it may change what other functions have to prove, as an edit of a type, a constant or a clause does."""
+        """Whether it may change what other functions have to prove, which an edit of a type, a constant or a clause does."""
         return bool(self.callers()) or not all(is_in_body for _, is_in_body in self.places)

@@ -1,4 +1,5 @@
-"""Where the functions of a source file stand, by its layout: a body ends at the first `}` that is indented as its `fn`."""
+"""Where the functions of a source file are, by the layout that `rt fmt` gives it: a body ends at the first `}` that is indented like its
+`fn`."""
 import re
 from collections import namedtuple
 
@@ -8,8 +9,8 @@ CLAUSE = re.compile(r" *(requires|ensures|ghost|decreases)\b")
 
 
 class Function(namedtuple("Function", "file name of trait start body end")):
-    """A function, with the type of its impl, as `Totals`, and the trait, if it has these; and its lines, from 1: of `fn`, of the first
-    after the contract, and of the end."""
+    """A function, with the type of its impl, for example `Totals`, and the trait, if it has these; and its lines, from 1: of `fn`, of the
+    first after the contract, and of the end."""
 
     @property
     def module(self):
@@ -23,39 +24,34 @@ class Function(namedtuple("Function", "file name of trait start body end")):
         return "::".join(filter(None, (self.of + self.trait or self.module, self.name)))
 
 
-def end_of(lines, start, indent):
-    """The first line of the body and the last one, or None for a function without a body."""
-    body, in_clauses = None, False
+def body_of(lines, start, indent):
+    """The first line of a function's body and the last one. Where it has no body, the first is the one after the contract and the last
+    the one before."""
+    in_clauses = False
     for at in range(start, len(lines)):
         line = lines[at].rstrip()
-        if body is None:
-            in_clauses = in_clauses or CLAUSE.match(line) is not None
-            if line == indent + "{" or not in_clauses and line.endswith("{"):
-                body = at
-            elif line.endswith("{}") and (not in_clauses or line == indent + "{}"):
-                return at, at
-            elif not in_clauses and (line.endswith(";") or re.search(r"\{.*\}$", line)):
-                return (at, at) if line.endswith("}") else None
-            elif line == indent + "}" or at > start and HEAD.match(line):
-                return None
-        elif line == indent + "}":
-            return body, at
-    return None
+        if at > start and HEAD.match(line):
+            return at, at - 1
+        in_clauses = in_clauses or CLAUSE.match(line) is not None
+        if line == indent + "{" or not in_clauses and line.endswith("{"):
+            return at, lines.index(indent + "}", at)
+        if line == indent + "{}":
+            return at, at
+        if not in_clauses and line.endswith(";"):
+            return at + 1, at
+    return len(lines), len(lines) - 1
 
 
 def impl_of(head):
-    """The type and the trait of an impl's or a trait's first line, without what stands in brackets."""
+    """The type and the trait of an impl's or a trait's first line, without their modules and what is in brackets."""
     while re.search(r"<[^<>]*>", head):
         head = re.sub(r"<[^<>]*>", "", head)
-    words = re.findall(r"[\w:()&]+", head)
-    last = [it.rpartition("::")[2] for it in words]
-    if "for" in last[1:2]:
-        return (last[2] if len(last) > 2 else ""), last[0]
-    return (last[0] if last else ""), ""
+    trait, of = re.match(r"\W*(?:([\w:]+) for )?\W*((?:\w|::)*)", head).groups("")
+    return of.rpartition("::")[2], trait.rpartition("::")[2]
 
 
-def functions_of(file, text):
-    """The functions with a body that stand in a file."""
+def declarations_of(file, text):
+    """The functions of a file, also those of a trait that have no body."""
     lines, found, block = text.split("\n"), [], ("", "", "")
     for at, line in enumerate(lines):
         opens, head = BLOCK.match(line), HEAD.match(line)
@@ -64,10 +60,14 @@ def functions_of(file, text):
         elif block[1] and line.rstrip() == block[0] + "}":
             block = ("", "", "")
         elif head:
-            ends = end_of(lines, at, head[1])
-            if ends:
-                found.append(Function(file, head[2], block[1], block[2], at + 1, ends[0] + 1, ends[1] + 1))
+            body, end = body_of(lines, at, head[1])
+            found.append(Function(file, head[2], block[1], block[2], at + 1, body + 1, end + 1))
     return found
+
+
+def functions_of(file, text):
+    """The functions of a file that have a body."""
+    return [it for it in declarations_of(file, text) if it.body <= it.end]
 
 
 def without_bodies(text):

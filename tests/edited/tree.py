@@ -1,4 +1,4 @@
-"""The crates of a repository: what each stands on, where its library is, and the sums of what its wrong bodies are refused for."""
+"""The crates of a repository: which others each uses, where its library is, and the sums of what its wrong bodies are refused for."""
 import hashlib
 import re
 import subprocess
@@ -11,8 +11,6 @@ from edited.functions import without_bodies
 PARTS = ("src", "specs", "proofs")
 # A line of a comment: what is refused does not depend on it.
 COMMENT = re.compile(r"(?m)^[ \t]*(?://|--).*\n")
-# So many wrong bodies are tried of a crate that did not change.
-MOST_OF_A_CRATE = 6
 
 
 def sum_of(text):
@@ -33,23 +31,18 @@ class Tree:
         return self.top / "crates" / crate
 
     def below(self, *crates):
-        """The crates that these stand on, directly or not, lowest first; none of these, unless another stands on it."""
-        found, rest = set(), [dep for it in crates for dep in self.uses[it]]
-        while rest:
-            name = rest.pop()
-            if name not in found:
-                found.add(name)
-                rest += self.uses[name]
+        """The crates that these use, directly or not, lowest first; none of these, unless another uses it."""
+        found = {used for it in crates for used in self.uses[it]}
+        for name in reversed(self.named):  # crates.txt lists a crate after those that it uses
+            found.update(self.uses[name] if name in found else ())
         return [it for it in self.named if it in found]
 
     def edits(self, crate):
         """The wrong bodies of a crate, in both places."""
         folder, others = self.folder(crate), self.top / f"tests/wrong_bodies/{crate}.edits"
-        found = entries_of(others) if others.is_file() else {}
-        gravest = {it.stem: it.read_text(encoding="utf-8") for it in sorted((folder / "must-fail").glob("*.edit"))}
-        for name in gravest.keys() & found.keys():
-            raise ValueError(f"{others} has an entry of the name of {folder}/must-fail/{name}.edit")
-        return [Edit(name, folder, text) for name, text in {**gravest, **found}.items()]
+        texts = {it.stem: it.read_text(encoding="utf-8") for it in sorted((folder / "must-fail").glob("*.edit"))}
+        texts.update(entries_of(others) if others.is_file() else {})
+        return [Edit(name, folder, text) for name, text in texts.items()]
 
     def gravest(self, crate):
         """Its wrong bodies that tests/wrong_bodies/gravest names, each with a reason, but for those that rt ci tries."""
@@ -84,20 +77,15 @@ class Tree:
         return [*self.without_comments(crate, "specs"), *lemmas,
                 *((path, without_bodies(text)) for path, text in self.without_comments(crate, "src"))]
 
-    def sums(self, crates):
-        """For each crate the sum of all that its wrong bodies are refused for. Comments and the folders of crates and edits count for
-        nothing."""
+    def sums(self, crates, edits=None):
+        """For each crate the sum of all that its wrong bodies, or these, are refused for. Comments and the folders of crates and edits
+        count for nothing."""
         stated, found = {it: self.stated(it) for it in self.below(*crates)}, {}
         for crate in crates:
-            edits = sorted((f"{it.name}.edit", it.text) for it in self.edits(crate))
+            texts = sorted((f"{it.name}.edit", it.text) for it in (self.edits(crate) if edits is None else edits))
             below = [(it, stated[it]) for it in self.below(crate)]
-            found[crate] = sum_of(repr((self.logic, self.named[crate], self.without_comments(crate, *PARTS), edits, below)))[:32]
+            found[crate] = sum_of(repr((self.logic, self.named[crate], self.without_comments(crate, *PARTS), texts, below)))[:32]
         return found
-
-    def sum_of_rest(self, crate):
-        """The sum of all that a wrong body of the crate is refused for, but the wrong body itself."""
-        below = [(it, self.stated(it)) for it in self.below(crate)]
-        return sum_of(repr((self.logic, self.named[crate], self.without_comments(crate, *PARTS), below)))[:32]
 
     def library(self, crate):
         return self.folder(crate) / f"out/rlib/{crate}.rlib"
@@ -106,38 +94,16 @@ class Tree:
         """The sum of all that a crate's library is made from."""
         return sum_of(repr([self.logic, *((it, self.named[it], self.files(it, *PARTS)) for it in [*self.below(crate), crate])]))
 
-    def note_of(self, crate):
-        # (the toolchain removes the folder before it makes the library anew)
-        return self.library(crate).parent / "sources"
-
     def note(self, crate):
-        """Notes that the library stands there as it is made from the sources of now."""
-        self.note_of(crate).write_text(self.library_sum(crate) + "\n", encoding="utf-8")
+        """Notes, in its folder, which the toolchain removes before it makes it anew, that the library is made from the sources of now."""
+        (self.library(crate).parent / "sources").write_text(self.library_sum(crate) + "\n", encoding="utf-8")
 
     def is_noted(self, crate):
-        return words_in(self.note_of(crate)) == [self.library_sum(crate)]
+        return words_in(self.library(crate).parent / "sources") == [self.library_sum(crate)]
 
     def whole_sum(self):
         """The sum of the sources of all crates."""
         return sum_of(repr([(it, self.files(it, *PARTS)) for it in self.named]))
-
-    def commits(self):
-        """How many there are, none where there is no history."""
-        try:
-            counted = subprocess.run(["git", "rev-list", "--count", "HEAD"], cwd=self.top, capture_output=True, text=True)
-        except OSError:
-            return 0
-        return int(counted.stdout or 0)
-
-    def in_turn(self):
-        """The crate whose turn it is, one at each commit; None where no crate has wrong bodies."""
-        return self.with_edits[self.commits() % len(self.with_edits)] if self.with_edits else None
-
-    def share(self, crate):
-        """A crate's wrong bodies, or of more than MOST_OF_A_CRATE a part, another one each time that the crate has its turn."""
-        edits, turn = self.edits(crate), self.commits() // len(self.with_edits)
-        parts = -(-len(edits) // MOST_OF_A_CRATE)
-        return edits[turn % parts :: parts]
 
     def passed(self):
         """For each crate the sum at which all of its wrong bodies were refused, as tests/edits.passed keeps it."""
@@ -149,28 +115,7 @@ class Tree:
         return [it for it in self.with_edits if passed.get(it) != sums[it]]
 
     def keep_passed(self, crate, sum):
-        # (another run may have kept others meanwhile)
+        # (another run may have kept others since)
         kept = {**self.passed(), crate: sum}
         text = "".join(f"{it} {kept[it]}\n" for it in self.with_edits if it in kept)
         (self.top / "tests/edits.passed").write_text(text, encoding="utf-8")
-
-
-class Refused:
-    """The file beside a crate's libraries that keeps the sums of its wrong bodies that were refused, so that a run that is cut off
-    loses only the checks under way."""
-
-    def __init__(self, tree, crate):
-        self.tree, self.crate, self.path = tree, crate, tree.folder(crate) / "out/refused"
-        self.rest = tree.sum_of_rest(crate)
-
-    def sum(self, edit):
-        return sum_of(self.rest + edit.text)[:32]
-
-    def read(self):
-        return set(words_in(self.path))
-
-    def keep(self, edits):
-        """Keeps that these were refused, unless the sources changed meanwhile."""
-        if edits and self.tree.sum_of_rest(self.crate) == self.rest:
-            self.path.parent.mkdir(exist_ok=True)
-            self.path.write_text("".join(f"{it}\n" for it in sorted(self.read().union(map(self.sum, edits)))), encoding="utf-8")

@@ -3,12 +3,12 @@ import shutil
 import tempfile
 import time
 from concurrent.futures import ThreadPoolExecutor, as_completed
-from pathlib import Path
+from contextlib import suppress
 from types import SimpleNamespace
 
 from edited.edit import NoLongerApplies
 from edited.report import GONE_NAME
-from edited.tree import Refused
+from edited.tree import sum_of, words_in
 
 REFUSED = "refused"
 ELSEWHERE = "refused only elsewhere"
@@ -20,26 +20,29 @@ FEW_CHECKS = 2
 
 
 class Crate:
-    """The wrong bodies of a crate and the outcome of each: a kind and the prover's words."""
+    """Wrong bodies of a crate and the outcome of each: a kind and the prover's words. The sums of those that were refused are kept beside
+    the crate's libraries, so that a run that goes on after another need not try them."""
 
-    def __init__(self, name, number):
-        self.name, self.number, self.outcomes, self.checks, self.seconds = name, number, {}, 0, 0
+    def __init__(self, tree, name, edits):
+        self.tree, self.name, self.edits, self.outcomes, self.checks, self.seconds = tree, name, edits, {}, 0, 0
+        self.path, self.rest = tree.folder(name) / "out/refused", tree.sums([name], [])
+
+    def is_kept(self, edit):
+        return self.sum(edit) in words_in(self.path)
+
+    def sum(self, edit):
+        return sum_of(self.rest[self.name] + edit.text)
+
+    def keep(self):
+        """Keeps which were refused, unless the sources changed."""
+        if self.tree.sums([self.name], []) == self.rest:
+            kept = {*words_in(self.path), *(self.sum(it) for it in self.edits if self.outcomes.get(it.name, [""])[0] == REFUSED)}
+            self.path.parent.mkdir(exist_ok=True)
+            self.path.write_text("\n".join(sorted(kept)))
 
     @property
     def refused(self):
         return sum(kind == REFUSED for kind, _ in self.outcomes.values())
-
-    @property
-    def passed(self):
-        return self.refused == self.number
-
-
-def together(texts, edit):
-    """The texts of a batch after this edit too, or None where another of the batch changed what it needs."""
-    try:
-        return edit.applied(texts)
-    except NoLongerApplies:
-        return None
 
 
 def batches_of(edits):
@@ -48,15 +51,15 @@ def batches_of(edits):
     batches = []
     for edit in (it for it in edits if not it.stands_alone):
         names = {(it.of or it.file, it.name) for it in edit.functions}
-        for batch in batches:
-            texts = None if batch.names & names else together(batch.texts, edit)
-            if texts:
+        for batch in (it for it in batches if not it.names & names):
+            with suppress(NoLongerApplies):  # where another of the batch changed what it needs
+                batch.texts = edit.applied(batch.texts)
                 break
         else:
-            batch, texts = SimpleNamespace(edits=[], names=set()), edit.applied({})
+            batch = SimpleNamespace(edits=[], names=set(), texts=edit.applied({}))
             batches.append(batch)
         batch.edits.append(edit)
-        batch.names, batch.texts = batch.names | names, texts
+        batch.names |= names
     return [it.edits for it in batches] + [[it] for it in edits if it.stands_alone]
 
 
@@ -82,60 +85,57 @@ def judged(report, crate, edit, is_alone):
     return ELSEWHERE, refused
 
 
-def try_batch(prover, seed, crate, batch, number):
+def try_batch(prover, seed, crate, batch):
     """What each edit of the batch came to, as above."""
     texts = {}
-    try:
-        for edit in batch:
-            texts = edit.applied(texts)
-    except NoLongerApplies as why:
-        return [(GONE, str(why)) if len(batch) == 1 else None for _ in batch]
-    report = prover.check_over(seed, crate, texts, number, [it for edit in batch for it in edit.functions])
+    for edit in batch:
+        texts = edit.applied(texts)
+    report = prover.check_over(seed, crate, texts, [it for edit in batch for it in edit.functions])
     return [judged(report, crate, edit, len(batch) == 1) for edit in batch]
 
 
-def try_batches(prover, seed, crate, batches, kept, say):
+def try_batches(prover, seed, crate, batches, say):
     """Tries the edits in these batches, side by side, and then those that did not come clear in smaller ones. Keeps which are refused."""
     began = time.monotonic()
     with ThreadPoolExecutor(prover.lanes) as pool:
         while batches:
-            running = {pool.submit(try_batch, prover, seed, crate.name, it, number): it for number, it in enumerate(batches, crate.checks)}
+            running = {pool.submit(try_batch, prover, seed, crate.name, it): it for it in batches}
             crate.checks, batches = crate.checks + len(batches), []
             for done in as_completed(running):
                 found = list(zip(running[done], done.result()))
                 crate.outcomes.update({edit.name: outcome for edit, outcome in found if outcome})
-                kept.keep([edit for edit, outcome in found if outcome and outcome[0] == REFUSED])
+                crate.keep()
                 unclear = [edit for edit, outcome in found if outcome is None]
                 # (where nothing came clear, fewer at a time)
                 half = (len(unclear) + 1) // 2 if len(unclear) == len(found) else len(unclear)
                 batches += [it for it in (unclear[:half], unclear[half:]) if it]
-                say(f"{crate.name}: {len(crate.outcomes)} of {crate.number} tried, after {round(time.monotonic() - began)} s")
+                say(f"{crate.name}: {len(crate.outcomes)} of {len(crate.edits)} tried, after {round(time.monotonic() - began)} s")
 
 
-def try_crate(tree, prover, name, edits, folder, jobs, anew, say):
+def try_crate(prover, name, edits, jobs, anew, say):
     """Tries these wrong bodies of a crate, all anew or those that no run refused, over a first check of it, with at most `jobs` jobs.
     Where they are few checks, and the library shows that the crate is proved, none is made: it takes as long as each of them does from
     nothing."""
-    began, kept, room = time.monotonic(), Refused(tree, name), Path(tempfile.mkdtemp(prefix=f"{name}-", dir=folder))
-    crate, todo, refused = Crate(name, len(edits)), [], set() if anew else kept.read()
+    began, crate, todo = time.monotonic(), Crate(prover.tree, name, edits), []
     for edit in edits:
         try:
             edit.applied({})
             edit.callers()
-            if kept.sum(edit) in refused:
-                crate.outcomes[edit.name] = REFUSED, "by an earlier run"
-            else:
+            if anew or not crate.is_kept(edit):
                 todo.append(edit)
+            else:
+                crate.outcomes[edit.name] = REFUSED, "by an earlier run"
         except NoLongerApplies as why:
             crate.outcomes[edit.name] = GONE, str(why)
-    batches, seed = batches_of(todo), room / "none"
-    if len(batches) > FEW_CHECKS or todo and not tree.is_noted(name):
-        seed, report = prover.seed(name, room, jobs)
-        crate.checks += 1
-        if report.status != 0:
-            crate.outcomes.update({it.name: (UNKNOWN, f"the crate itself is not proved: {report.first_error}") for it in todo})
-            batches = []
-    try_batches(prover, seed, crate, batches, kept, say)
-    shutil.rmtree(room)
+    batches, seed, own = batches_of(todo), None, prover.tree.folder(name) / "out/incremental"
+    with tempfile.TemporaryDirectory(dir=prover.folder) as room:
+        if len(batches) > FEW_CHECKS or todo and not prover.tree.is_noted(name):
+            seed = shutil.copytree(own, room, dirs_exist_ok=True) if own.is_dir() else room
+            report = prover.check(name, {}, seed, jobs)
+            crate.checks += 1
+            if report.status != 0:
+                crate.outcomes.update({it.name: (UNKNOWN, f"the crate itself is not proved: {report.first_error}") for it in todo})
+                batches = []
+        try_batches(prover, seed, crate, batches, say)
     crate.seconds = round(time.monotonic() - began)
     return crate

@@ -1,5 +1,6 @@
 """A headless browser on the page, driven as somebody would drive it: files are chosen, texts pasted, keys pressed."""
 import contextlib
+import os
 import pathlib
 import tempfile
 
@@ -11,7 +12,7 @@ from selenium.webdriver.support.ui import WebDriverWait
 
 from places import TOP
 
-PAGE = TOP / "page" / "index.html"
+PAGE = pathlib.Path(os.environ.get("PAGE") or TOP / "page/index.html")
 # No test is about time: a machine can be slow or have other work. After this many seconds nothing comes any more.
 PATIENCE = 600
 STARTS = 5

@@ -1,92 +1,70 @@
 """What the pages cite: functions and clauses, files, edits, cases, crates, layers, and each other by links."""
 import os
 import re
-from itertools import zip_longest
+from collections import defaultdict
 from pathlib import Path
 
 from pages.markdown import anchors_of, links_of, prose_of, rows_of, sections_of
 
 PROVED, ARCHITECTURE = "docs/PROVED.md", "docs/ARCHITECTURE.md"
-CLAUSE = re.compile(r"(\w+)(?: \([^)]*\))?(?:, | and |$)")  # perhaps with fields in brackets
-ENTRY = re.compile(rf"((?:`[^`]+`(?:,? and |, )?)+) *((?:{CLAUSE.pattern})*)")
-FILE = re.compile(r"(crates|docs|tests|scripts|bench|examples|page|desks)(/[\w.*-]+)+")
-OF_CRATE = re.compile(r"(zh_\w+/)?(src|specs|proofs|data)(/\w+)+\.\w+")
-TYPE = re.compile(r"^\s*pub (?:struct|enum|trait|type) (\w+)", re.M)
+# What a word looks like that names a file, and where that file can be.
+FILE = re.compile(r"(?!.*/out/)((crates|docs|tests|scripts|bench|examples|page|desks|(zh_\w+/)?(src|specs|proofs|data))(/[\w.*-]+)+"
+                  r"|[\w*]+\.(edit|case|antt|rt))")
+PLACES = ("{}", "crates/{}", "crates/*/{}", "crates/*/[!o]*/**/{}", "tests/**/{}")
 NAME = re.compile(r"[a-z0-9]+(_[a-z0-9]+)+|([A-Z][a-z0-9]+){2,}")
 LINKED = re.compile(r"\[`([\w:]+)`\]\(([^()\s#]+\.(?:rt|antt))\)")
-
-
-def is_called(function, name, owner):
-    """Whether a function goes by this name: `f`, `Type::f`, or `Trait for Type` for all of an impl. A name alone is one
-    of the type named last, or a function without a type."""
-    first, *others = function.split("::")
-    is_of_owner = owner and (first == owner or first.endswith(f"for {owner}"))
-    is_of_impl = "::" in name and function.partition(" for ")[2] == name
-    return function == name or others and first == name or is_of_impl or is_of_owner and function.split("::")[-1] == name
+DEFINED = re.compile(r"\b(?:(?:abbrev|data|enum|fn|pub|record|struct|trait|type) )+(\w+)")
 
 
 def promised(tree):
-    """The clauses that PROVED's column `Carried by` names, under a heading with their crates, and where it names none. Entries are parted
-    by ';', and have functions in backticks and then names of clauses, or none where all are meant."""
-    found, faults, by_word = [], [], {}
-    for word, it in ((word, it) for it in tree.clauses for word in {*re.split("::| for ", it.function)}):
-        by_word.setdefault(word, []).append(it)
+    """The clauses that PROVED's column `Carried by` names, under a heading with their crates, and what is wrong there. A ';' parts
+    entries. Each has functions in backticks, or types whose functions are all meant, and then names of clauses, unless all are meant."""
+    found, faults, by_name = [], [], defaultdict(list)
+    for it in tree.clauses:
+        for name in {it.function, it.function.rpartition("::")[0], it.function.partition(" for ")[2]}:
+            by_name[name].append(it)
     for section in sections_of(tree.read(PROVED)):
-        crates, owner = re.findall(r"`(zh\w*)`", section.title), None
-        cells = [(line, row["Carried by"]) for line, row in rows_of(section) if "Carried by" in row]
-        for line, entry in ((line, it.strip()) for line, cell in cells for it in cell.split(";")):
-            named = ENTRY.fullmatch(entry)
-            faults += [] if named else [f"{PROVED}:{line}: can't be read: {entry}"]
-            clauses = CLAUSE.findall(named[2] if named else "")
-            for name in re.findall("`([^`]+)`", named[1] if named else ""):
-                owner = name.split("::")[0] if "::" in name and " for " not in name else owner
-                called = [it for it in by_word.get(re.split("::| for ", name)[-1], []) if is_called(it.function, name, owner)]
-                meant = [it for it in called if it.crate in crates] or called * ("::" in name)
-                faults += [] if meant else [f"{PROVED}:{line}: there is no {name}"]
-                gone = {*clauses} - {it.name for it in meant} if meant else ()
-                faults += [f"{PROVED}:{line}: {name} has no clause {it}" for it in gone]
+        crates, rows = re.findall(r"`(zh\w*)`", section.title), [it for it in rows_of(section) if "Carried by" in it[1]]
+        for line, entry in ((line, it.strip()) for line, row in rows for it in row["Carried by"].split(";")):
+            names, others = re.findall("`([^`]+)`", entry), re.sub(r"`[^`]+`|\([^)]*\)", "", entry)
+            clauses = {*re.findall(r"\w+", others)}
+            faults += [] if names else [f"{PROVED}:{line}: '{entry}' names no function"]
+            for name in names:
+                meant = [it for it in by_name[name] if it.crate in crates] or by_name[name] * ("::" in name)
+                gone = [f"has no clause {it}" for it in clauses - {it.name for it in meant}] if meant else ["is not there"]
+                faults += [f"{PROVED}:{line}: {name} {it}" for it in gone]
                 found += [it for it in meant if not clauses or it.name in clauses]
     return found, faults
 
 
 def things(tree):
-    """Files, edits, cases, crates and functions that a page names in backticks and that are not there; and names of two words
-    on the page of the crates that stand in none."""
+    """Files, edits, cases, crates and functions that a page names in backticks and that do not exist; and names of two words that
+    ARCHITECTURE has and no crate."""
     functions = {it.function.split("for ")[-1] for it in tree.clauses}
     crates = "\n".join(text for folder in ("src", "specs", "proofs") for *_, text in tree.files(f"{folder}/**/*.*t"))
+
+    def is_there(word, page):
+        if re.fullmatch(r"zh_\w+|zhcount", word):
+            return word in tree.crates
+        if FILE.fullmatch(word):
+            return any(any(tree.top.glob(it.format(word))) for it in PLACES)
+        if re.fullmatch(r"[A-Z]\w+::[a-z]\w+", word):
+            return word in functions
+        return page != ARCHITECTURE or not NAME.fullmatch(word) or word in crates
+
     for page in tree.pages:
         for number, line in enumerate(prose_of(tree.read(page)).splitlines(), 1):
-            for word in re.findall(r"`([^`\s]+)`", line):
-                there = is_there(word, tree, functions)
-                if there is False or there is None and page == ARCHITECTURE and NAME.fullmatch(word) and word not in crates:
-                    yield f"{page}:{number}: there is no {word}"
-
-
-def is_there(word, tree, functions):
-    """Whether a thing is there; None if the word names nothing of the repository."""
-    if re.fullmatch(r"zh_\w+|zhcount", word):
-        return word in tree.crates
-    if re.fullmatch(r"[\w*]+\.(edit|case|antt|rt)", word):
-        return any(tree.top.glob(f"crates/*/**/{word}")) or any(tree.top.glob(f"tests/**/{word}"))
-    if OF_CRATE.fullmatch(word):
-        return any(tree.top.glob(f"crates/{word if word.startswith('zh_') else f'*/{word}'}"))
-    if FILE.fullmatch(word) and "/out/" not in word:
-        return any(tree.top.glob(word))
-    return word in functions if re.fullmatch(r"[A-Z]\w+::[a-z]\w+", word) else None
+            yield from (f"{page}:{number}: {it} does not exist" for it in re.findall(r"`([^`\s]+)`", line) if not is_there(it, page))
 
 
 def places(tree):
-    """Functions, types and definitions that a link of a page names, and that do not stand in its file."""
-    functions = [(str(it.path), it.function.split(" for ")[-1]) for it in tree.clauses]
-    standing = {(path, name) for path, function in functions for name in (function, *function.split("::"))}
-    standing |= {(str(path), name) for path, (code, *_) in tree.sources.items() for name in TYPE.findall(code)}
-    standing |= {(f"crates/{it.crate}/specs/{it.module}.antt", it.name) for it in tree.definitions.values()}
+    """Functions, types and definitions that a link of a page names, and that its file does not define."""
     for page in tree.pages:
         for number, line in enumerate(tree.read(page).splitlines(), 1):
             for name, link in LINKED.findall(line):
-                path = os.path.normpath(f"{os.path.dirname(page)}/{link}")
-                if (path, name) not in standing:
-                    yield f"{page}:{number}: {name} does not stand in {path}"
+                file = (tree.top / page).parent / link
+                if file.exists() and name.split("::")[-1] not in DEFINED.findall(file.read_text(encoding="utf-8")):
+                    yield f"{page}:{number}: {link} does not define {name}"
 
 
 def lost_links(folder, patterns=("**/*.md", "**/*.html")):
@@ -99,28 +77,39 @@ def lost_links(folder, patterns=("**/*.md", "**/*.html")):
             target, _, anchor = link.partition("#")
             path = Path(os.path.normpath(page.parent / target)) if target else page
             is_there = path.exists() and folder in path.parents
-            has_anchors = is_there and path.suffix in (".md", ".html")
-            if not is_there or anchor and not (has_anchors and anchor in anchors_of(path.read_text(encoding="utf-8"))):
+            anchors = anchors_of(path.read_text(encoding="utf-8")) if is_there and path.suffix in (".md", ".html") else []
+            if not is_there or anchor and anchor not in anchors:
                 yield f"{page.relative_to(folder)}:{line}: {link} leads nowhere"
 
 
 def layers(tree):
-    """Where crates.txt lists a crate before one that it stands on, and where ARCHITECTURE has not its layers, or says of a crate what its
+    """Where crates.txt lists a crate before one that it uses, and where ARCHITECTURE has different layers, or says of a crate what its
     root file does not begin with."""
     said, before = {}, set()
     for crate, below in tree.named.items():
         yield from (f"crates.txt lists {crate} before {it}, which it uses" for it in below if it in tree.named and it not in before)
         before.add(crate)
     for section in sections_of(tree.read(ARCHITECTURE)):
-        rows = [(line, *row.values()) for line, row in rows_of(section) if re.match("`zh", [*row.values()][0])]
-        for line, crate, sentence, *_ in ((line, crate.strip("`"), *others) for line, crate, *others in rows):
-            said.setdefault(section.title.lower(), []).append(crate)
-            root = "".join(text for name in ("lib", "main") for *_, text in tree.files(f"src/{name}.rt", [crate]))
-            if crate in tree.crates and not re.match(rf"{re.escape(sentence)}(?!\w)", " ".join(re.findall("(?m)^//! *(.*)", root))):
+        for line, (crate, sentence, *_) in ((line, row.values()) for line, row in rows_of(section) if "Crate" in row):
+            said.setdefault(section.title.lower(), []).append(crate.strip("`"))
+            root = "".join(text for name in ("lib", "main") for *_, text in tree.files(f"src/{name}.rt", [crate.strip("`")]))
+            if not re.match(rf"{re.escape(sentence)}(?!\w)", " ".join(re.findall("(?m)^//! *(.*)", root))):
                 yield f"{ARCHITECTURE}:{line}: the root file of {crate} does not begin with '{sentence}'"
-    for wanted, found in zip_longest(tree.layers.items(), said.items(), fillvalue=("end", [])):
-        if wanted != found:
-            yield f"{ARCHITECTURE}: it has {' '.join(found[1])} in '{found[0]}', crates.txt {' '.join(wanted[1])} in '{wanted[0]}'"
+    for title in {**tree.layers, **said}:
+        crates, found = (" ".join(it.get(title, [])) for it in (tree.layers, said))
+        if crates != found:
+            yield f"{ARCHITECTURE}: the crates of '{title}' are '{found}', those of crates.txt '{crates}'"
+
+
+def drawing(tree):
+    """The layers that layers.svg does not show as crates.txt has them: each with its crates and the layers that it uses."""
+    drawn = " ".join(re.findall("<text[^>]*>(.*)</text>", tree.read("docs/layers.svg")))
+    for title, crates in tree.layers.items():
+        below = {it for crate in crates for it in tree.named[crate]}
+        uses = [it.partition(":")[0] for it, inside in tree.layers.items() if it != title and below & {*inside}] or ["none of these"]
+        layer = f"{title.replace(':', '', 1)} {' '.join(crates)} {', '.join(uses)}"
+        if layer not in drawn:
+            yield f"docs/layers.svg does not show: {layer}"
 
 
 def trusted(tree):

@@ -7,14 +7,14 @@ what is done with it:
 
 - A line begins with '$ ': a session at a terminal. Such a line is a command, and lines right below it that begin with '> '
   continue it. What follows, up to the next command, is what it prints, on standard output and standard error. If it is zhcount
-  or make, without '<' or '|', lines as '1 show 1 1' among these were typed, and are its input (of zhcount-desk lines as 'show
-  1 1'). '..' stands for any lines, and at a line's end for any rest of it. The status is 0, or it is shown by 'echo $?'.
+  or make, without '<' or '|', lines such as '1 show 1 1' among these were typed, and are its input (of zhcount-desk lines such
+  as 'show 1 1'). '..' is for any lines, and at a line's end for any rest of it. The status is 0, or 'echo $?' shows it.
 - Every line is a line for the office and its reply, with two blanks or more between: a dialogue, in a rehearsal of its own.
   After two more blanks there may be a remark.
-- Its fence names a file, as in '```toml setup.toml': the block is that file.
+- Its fence names a file, for example '```toml setup.toml': the block is that file.
+- Its fence is '```text not run': it is for people alone.
 
-Any other block is a fault, unless tests/pages/left_out has the reason why it is not run. ZHCOUNT names another built program
-than crates/zhcount/out/zhcount, and stands there then."""
+Any other block is a fault. ZHCOUNT names a different program from crates/zhcount/out/zhcount, which is then in its place."""
 import contextlib
 import os
 import re
@@ -29,14 +29,12 @@ from pathlib import Path
 from pages.markdown import blocks_of
 from places import PROGRAM
 
-LEFT_OUT = "tests/pages/left_out"
 GROUPS = [["README.md"], ["docs/MANUAL.md", "docs/CHECKING.md", "docs/de/CHECKING.md"], ["docs/FAQ.md"],
           ["docs/NIGHT.md"], ["docs/de/NIGHT.md"]]
 WHERE_INSTALLED = ("docs/NIGHT.md", "docs/de/NIGHT.md")
 TYPED_AT_DESK = re.compile(r"(return|show|last|withdraw|close|reopen|open|row|commit|drop|sheet|final)( \d+)*")
 TYPED = re.compile(rf"[1-8] {TYPED_AT_DESK.pattern}")
-REPLY = r"[0-8] (?:stored|same|held|dropped|none|shows|last|refused)\b.*?"
-TURN = re.compile(rf"(\d+ [a-z]+(?: \d+)*) {{2,}}({REPLY})(?: {{2,}}.*)?")
+TURN = re.compile(r"(\d+ [a-z]+(?: \d+)*) {2,}(\d [a-z]+.*?)(?: {2,}.*)?")
 SECONDS = 600  # of a page
 # What the shell itself says of a job that was killed.
 OF_A_JOB = re.compile(r"^bash: line \d+: +\d+ (Killed|Terminated).*\n", re.M)
@@ -67,20 +65,20 @@ def step_of(text, next_text):
 
 
 def steps_of(block, folder):
-    """What is done with a block; nothing where no form fits."""
-    text, turns = "\n".join(block.lines), [TURN.fullmatch(line) for line in block.lines]
-    if block.first.startswith("$ "):
-        commands = re.split(r"(?:\A|\n)\$ ", text)[1:]
+    """What is done with a block; None where no form fits."""
+    file, turns = block.fence.partition(" ")[2], [TURN.fullmatch(line) for line in block.lines]
+    if file == "not run":
+        return []
+    if block.lines[0].startswith("$ "):
+        commands = re.split(r"(?:\A|\n)\$ ", "\n".join(block.lines))[1:]
         return [step_of(it, following.split("\n")[0]) for it, following in zip(commands, commands[1:] + [""])]
     if all(turns):
         return [Step("zhcount 2> /dev/null", [it[1] for it in turns], [it[2] for it in turns])]
-    if block.file and "/" not in block.file:
-        return [Step(f"(set -C; cat > {shlex.quote(str(folder / block.file))})", block.lines)]
-    return []
+    return [Step(f"(set -C; cat > {shlex.quote(str(folder / file))})", block.lines)] if file else None
 
 
 def meets(output, shown):
-    """Whether the output is what is shown, where '..' stands for the rest."""
+    """Whether the output is what is shown, where '..' is for the rest."""
     pattern = ""
     for line in shown:
         rest = r"[^\n]*" if line.endswith("..") else ""
@@ -99,11 +97,11 @@ def fault_of(step, room, local):
     return f"its status is {status.strip()}, which the page does not show\n{output}" if status != "0\n" and not step.may_fail else ""
 
 
-def run_page(tree, page, folder, environment, local="/usr/local"):
-    """Runs the blocks of a page that are not left out, each step with a room, in one shell. The faults."""
-    blocks = [(it, steps_of(it, folder)) for it in blocks_of(tree.read(page)) if (page, it.first) not in left_out_of(tree)]
-    yield from (f"{page}:{it.line}: {it.first}: it is neither run nor left out for a reason" for it, found in blocks if not found)
-    steps = [(block.line, it) for block, found in blocks for it in found]
+def run_page(tree, page, folder, environment, local):
+    """Runs the blocks of a page, each step with a room, in one shell. The faults."""
+    blocks = [(it, steps_of(it, folder)) for it in blocks_of(tree.read(page))]
+    yield from (f"{page}:{it.line}: {it.lines[0]}: it can't be run, and its fence does not say so" for it, steps in blocks if steps is None)
+    steps = [(block.line, it) for block, steps in blocks for it in steps or []]
     rooms = [Path(environment["TMPDIR"], "rooms", page, str(number)) for number in range(len(steps))]
     for (_, step), room in zip(steps, rooms):
         room.mkdir(parents=True)
@@ -134,37 +132,22 @@ def furnish(top, folder):
 def run_group(tree, group):
     """The faults of these pages, run without what a reader has not: an installed program, and what a make gives to another."""
     with tempfile.TemporaryDirectory(prefix="documents-", ignore_cleanup_errors=True) as made:
-        folder, temporary, local = places = [Path(made, name) for name in ("folder", "temporary", "local")]
-        for it in places:
-            it.mkdir()
-        path = ":".join(it for it in os.environ["PATH"].split(":") if not list(Path(it).glob("zhcount*")))
-        kept = {name: it for name, it in os.environ.items() if name not in ("ZHCOUNT", "MAKEFLAGS", "MAKELEVEL", "MFLAGS")}
-        environment = {**kept, "PATH": path, "LC_ALL": "C", "TMPDIR": str(temporary)}
-        if group[0] not in WHERE_INSTALLED:
+        folder, temporary, local = (Path(tempfile.mkdtemp(dir=made)) for _ in range(3))
+        path = [it for it in os.environ["PATH"].split(":") if not list(Path(it).glob("zhcount*"))]
+        if group[0] in WHERE_INSTALLED:
+            words = [tree.top / "scripts/install", "", local]
+            subprocess.run(words, env={**os.environ, "ZHCOUNT": str(PROGRAM)}, stdout=subprocess.DEVNULL, check=True)
+            path.insert(0, f"{local}/bin")
+        else:
             furnish(tree.top, folder)
-            return [fault for page in group for fault in run_page(tree, page, folder, environment)]
-        words = [tree.top / "scripts/install", "", local]
-        subprocess.run(words, env={**os.environ, "ZHCOUNT": str(PROGRAM)}, stdout=subprocess.DEVNULL, check=True)
-        return list(run_page(tree, group[0], folder, {**environment, "PATH": f"{local}/bin:{path}"}, str(local)))
+        kept = {name: it for name, it in os.environ.items() if name not in ("ZHCOUNT", "MAKEFLAGS", "MAKELEVEL", "MFLAGS")}
+        environment = {**kept, "PATH": ":".join(path), "LC_ALL": "C", "TMPDIR": str(temporary)}
+        return [fault for page in group for fault in run_page(tree, page, folder, environment, str(local))]
 
 
-def examples(tree, pages=()):
-    """What is not as these pages show it, or as any page does; the groups side by side."""
-    groups = [it for it in GROUPS if not pages or not set(it).isdisjoint(pages)]
-    if not groups or not os.access(PROGRAM, os.X_OK):
-        return [f"there is no program {PROGRAM}, or no example to be run on {' '.join(pages)}"]
+def examples(tree):
+    """What is not as a page shows it; the groups are run side by side."""
+    if not os.access(PROGRAM, os.X_OK):
+        return [f"the program {PROGRAM} does not exist: make build makes it"]
     with ThreadPoolExecutor() as pool:
-        return [fault for found in pool.map(lambda it: run_group(tree, it), groups) for fault in found]
-
-
-def left_out_of(tree):
-    """The blocks to be left out: page and first line, below a reason."""
-    return re.findall(r"^ +(\S+): (.+)", tree.read(LEFT_OUT), re.M)
-
-
-def left_out(tree):
-    """Blocks to be left out that are not there, or have no reason."""
-    yield from [f"{LEFT_OUT} begins without a reason"] * tree.read(LEFT_OUT).startswith(" ")
-    for page, first in left_out_of(tree):
-        if first not in [it.first for it in blocks_of(tree.read(page))]:
-            yield f"{LEFT_OUT}: {page} has no block '{first}'"
+        return [fault for found in pool.map(lambda it: run_group(tree, it), GROUPS) for fault in found]

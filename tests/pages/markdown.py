@@ -8,23 +8,18 @@ CODE = re.compile(r"`` .*? ``|``.*?``|`[^`\n]*`")
 LINK = re.compile(r"\]\(([^()\s]+)\)")
 LINK_OF_HTML = re.compile(r"(?:href|src)=[\"']([^\"'{$]+)[\"']")
 CELL = re.compile(r"(?<!\\)\|")
-LIST_ITEM = re.compile(r"^ *([-*+]|\d+\.) ")
 
-# A block: the number of its first line, that line, and the word and the file that its fence names, if it has one; and a section.
-Block = namedtuple("Block", "line first word file lines")
+# A block: the number of its first line, and what its fence says, if it has one; and a section.
+Block = namedtuple("Block", "line fence lines")
 Section = namedtuple("Section", "level title line lines")
 
 
 def blocks_of(text):
-    """The fenced blocks of a page, and the indented paragraphs that are no part of a list."""
+    """The blocks of a page, which are fenced or indented."""
     for it in BLOCK.finditer(text):
-        before = text[:it.start()].rstrip().rpartition("\n")[2]
-        if it["fence"] is None and (LIST_ITEM.match(before) or before.startswith(" ")):
-            continue
-        depth, opening = (4, 0) if it["fence"] is None else (len(it["indent"]), 1)
-        word, _, file = (it["fence"] or "").strip().partition(" ")
+        depth, opening, fence = (4, 0, "") if it["fence"] is None else (len(it["indent"]), 1, it["fence"].strip())
         lines = [line[depth:] for line in (it["fenced"] or it[0]).rstrip("\n").split("\n")]
-        yield Block(text.count("\n", 0, it.start()) + 1 + opening, lines[0].strip(), word, file, lines)
+        yield Block(text.count("\n", 0, it.start()) + 1 + opening, fence, lines)
 
 
 def prose_of(text):
@@ -33,13 +28,13 @@ def prose_of(text):
 
 
 def code_of(text):
-    """What stands in backticks and in blocks."""
+    """The text in backticks and in blocks."""
     blocks = [line for block in blocks_of(text) for line in block.lines]
     return "\n".join(blocks + [it.strip("`") for it in CODE.findall(prose_of(text))])
 
 
 def sections_of(text):
-    """The sections of a page; the first, of level 0, has what stands before each heading."""
+    """The sections of a page; the first, of level 0, is the text before all headings."""
     found, is_in_fence = [Section(0, "", 1, [])], False
     for number, line in enumerate(text.splitlines(), 1):
         is_in_fence ^= line.lstrip().startswith("```")

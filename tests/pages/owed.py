@@ -1,10 +1,10 @@
-"""What pages owe their readers: each reply, refusal, fault, task, argument, table, key of a set-up and limit of the sources.
+"""What pages owe their readers: each reply, refusal, fault, task, table, argument, key of a set-up and limit of the sources.
 
-A word stands in backticks or in a block; an argument with its two dashes. A limit stands as its digits in groups of three,
-1,118,720, in the part 'Limits' of MANUAL, or anywhere in FORMATS."""
+A word is in backticks or in a block, an argument with its two dashes. A limit is there as its digits in groups of three, 1,118,720, in
+the part 'Limits' of MANUAL, or anywhere in FORMATS."""
 import re
 
-from pages.markdown import code_of
+from pages.markdown import code_of, sections_of
 
 FORMATS, MANUAL = "docs/FORMATS.md", "docs/MANUAL.md"
 
@@ -35,9 +35,8 @@ OF_SETUP = "limits_text setup_of quorum_of constituency_from"
 def found_in(tree, names, pattern):
     """What the pattern finds in these definitions, each once. All of them have to be there."""
     named = {it.key for it in tree.definitions.values() if it.name in names.split()}
-    used = [tree.definitions[key] for key in tree.followed(named)[0]]
-    gone = set(names.split()) - {it.name for it in used}
-    assert not gone, f"there is no definition {' '.join(gone)} any more"
+    used = [tree.definitions[key] for key in tree.followed(named)]
+    assert {*names.split()} <= {it.name for it in used}, f"a definition is gone: {names}"
     texts = ["\n".join(it.text) for it in used if it.key in named or it.name.endswith(("_name", "_rules"))]
     return sorted({word for text in texts for word in re.findall(pattern, text)})
 
@@ -56,13 +55,15 @@ def said(tree):
 
 
 def limits(tree):
-    texts = {FORMATS: tree.read(FORMATS), MANUAL: re.search(r"^## Limits\n(?:(?!## ).*\n)*", tree.read(MANUAL), re.M)[0]}
-    owed = [(FORMATS, "a limit of a set-up", it) for it in found_in(tree, OF_SETUP, r"(?<![\w.])(?!1\b)\d+\b")]
-    for page, crate, name in ((page, *it.split()) for page, names in LIMITS.items() for it in names.split(",")):
-        text = "\n".join(text for *_, text in tree.files("src/**/*.rt", [crate]))
-        found = re.findall(rf"const {name}: \w+ = ([\d_]+);", text)
-        assert found, f"there is no {name} of {crate} any more"
-        owed += [(page, f"{name} of {crate}", it) for it in found]
+    """Limits that their page does not say."""
+    part, = ("\n".join(it.lines) for it in sections_of(tree.read(MANUAL)) if it.title == "Limits")
+    texts = {FORMATS: tree.read(FORMATS), MANUAL: part}
+    owed = [(FORMATS, "a set-up", it) for it in found_in(tree, OF_SETUP, r"(?<![\w.])(?!1\b)\d+\b")]
+    for page, constant in ((page, it) for page, names in LIMITS.items() for it in names.split(",")):
+        crate, name = constant.split()
+        numbers = re.findall(rf"const {name}: \w+ = ([\d_]+);", "\n".join(text for *_, text in tree.files("src/**/*.rt", [crate])))
+        assert numbers, f"a constant is gone: {constant}"
+        owed += [(page, constant, it) for it in numbers]
     for page, what, number in owed:
         if not re.search(rf"(?<![\d,.]){int(number):,}(?![\d,]*\d)", texts[page]):
-            yield f"{page} does not say {int(number):,}, {what}"
+            yield f"{page} does not say {int(number):,}, a limit of {what}"

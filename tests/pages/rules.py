@@ -1,9 +1,8 @@
-"""The table of all that is held: each rule with a violation that it has to see, which is planted in a copy of the tree."""
+"""The table of the rules, each with a violation that it must see, which is planted in a copy of the tree."""
 from collections import namedtuple
 from itertools import chain
 
 from pages import cited, examples, language, owed, shape, written
-from pages.unread import unread
 
 START, END = r"\A", r"\Z"
 # Files that a violation adds, and pages that it changes.
@@ -11,8 +10,8 @@ SPEC, SOURCE = "crates/zh_disk/specs/Planted.antt", "crates/zh_disk/src/planted.
 SPECS, SOURCES = "crates/*/specs/**/*.antt", "crates/*/src/**/*.rt"
 FAQ, GERMAN, PROVED = "docs/FAQ.md", "docs/de/NIGHT.md", "docs/PROVED.md"
 
-# What is held: its name, what it asks for, and the function that finds its faults. The changes of its violation: the path of some files, a
-# pattern, and what is put in place of the first text that this finds in them; and what is said of it.
+# A rule: its name, what it asks for, and the function that finds its faults. The changes of its violation: the path of some files, a
+# pattern, and what replaces the first text in them that the pattern finds; and what the rule says of it.
 Rule = namedtuple("Rule", "name asks faults changes seen")
 
 RULES = [
@@ -22,12 +21,7 @@ RULES = [
          [(SPEC, END, "abbrev pub planted : ℕ\nplanted = 1\n")], [r"no clause reaches zh_disk\.specs\.Planted\.planted"]),
     Rule("names", "no two crates define one name", shape.names,
          [(SPEC, END, "pub record Office : Type 0 where\n")], ["Office is defined in zh_disk and zh_office"]),
-    Rule("parameters", "no definition has more than six parameters", shape.parameters,
-         [(SPEC, END, "abbrev pub planted : {A : Type 0} → ((ℕ → ℕ) → ℕ) → (a b c : ℕ) → (d : ℕ) × (d ≡ d) → A → A → A\n")],
-         [r"planted in \S*Planted.antt has 7 parameters"]),
-    Rule("characters", "no line of a definition or of the code has more than 140 characters", shape.characters,
-         [(SPEC, END, f"-- {'≡' * 138}\n")], [r"Planted\.antt:1 has 141 characters"]),
-    Rule("unread", "no crate has destructors or macros of its own, or unsafe code", unread,
+    Rule("unread", "no crate has destructors or macros of its own, or unsafe code", shape.unread,
          [(SOURCE, END, "impl<D: File + Drop>\n    Drop for HeldFile<D> {\n}\nuse std::prelude::Drop as Let;\n"
            "impl<D: File> Drop /* a file */ for HeldFile<D> {\n}\nimpl<const N: usize = { 1 }> Drop for Held<N> {\n}\n"
            "const A: &str = \"//\"; impl Drop for Held {\n}\nmacro_rules! let_go {\n    ($t:ty) => {}\n}\n// unsafe\n"
@@ -38,42 +32,40 @@ RULES = [
     Rule("carried", "each function and clause of PROVED's column 'Carried by' is there", lambda tree: cited.promised(tree)[1],
          [(PROVED, END, "\n## `zh_disk`\n\n| What | Carried by |\n|---|---|\n| a | `planted` |\n| b | as above |\n"
            "| c | `Disk::read_at` planted |\n")],
-         ["there is no planted", "can't be read: as above", "Disk::read_at has no clause planted"]),
+         ["planted is not there", "'as above' names no function", "Disk::read_at has no clause planted"]),
     Rule("things", "each file, edit, case, crate and function in backticks is there", cited.things,
          [(FAQ, END, "\n`planted.edit`, `zh_planted`, `crates/planted`, `src/planted.rt`, `Planted::gone`\n"),
           (cited.ARCHITECTURE, END, "\n`planted_name`\n")],
-         [f"there is no {it}"
+         [f"{it} does not exist"
           for it in ("planted.edit", "zh_planted", "crates/planted", "src/planted.rt", "Planted::gone", "planted_name")]),
-    Rule("places", "what a link names stands in the link's file: a function, a type or a definition", cited.places,
+    Rule("places", "the file of a link defines the function, type or definition that the link names", cited.places,
          [(FAQ, END, "\n[`open_gate`](../crates/zh_disk/src/disk.rt), [`Disk::planted`](../crates/zh_disk/src/disk.rt)\n")],
-         ["open_gate does not stand in crates/zh_disk/src/disk.rt", "Disk::planted does not stand in"]),
+         ["crates/zh_disk/src/disk.rt does not define open_gate", "does not define Disk::planted"]),
     Rule("links", "each link leads to a file, and to a heading of it",
          lambda tree: cited.lost_links(tree.top, ("*.md", "docs/**/*.md", "examples/**/*.md", "*/*.md")),
          [(FAQ, END, "\n[a](PLANTED.md) [b](#planted) [c](NIGHT.md#planted) [d](/etc/passwd) [e](https://example.org)\n")],
          [f": {it} leads nowhere" for it in ("PLANTED.md", "#planted", "NIGHT.md#planted", "/etc/passwd")]),
-    Rule("layers", "crates.txt lists the lowest crates first; ARCHITECTURE has its layers, and of a crate what its root file begins with",
-         cited.layers,
+    Rule("layers", "crates.txt lists the lowest crates first; ARCHITECTURE has its layers, and of a crate what its root file begins with; "
+         "layers.svg shows the layers", lambda tree: chain(cited.layers(tree), cited.drawing(tree)),
          [("crates.txt", END, "zh_planted:\n"), ("crates.txt", "^zh_text: ", "zh_text: zh_planted "),
           ("crates/zh_disk/src/lib.rt", "^//! ", "//! Planted: ")],
-         ["crates.txt .* zh_planted in", "lists zh_text before zh_planted", "the root file of zh_disk does not begin with"]),
+         ["those of crates.txt '.* zh_planted'", "lists zh_text before zh_planted", "the root file of `zh_disk` does not begin with",
+          "layers.svg does not show: tests .* zh_planted ", "layers.svg does not show: bytes .* zh_text tests"]),
     Rule("trusted", "README names the libraries of the kit that are trusted, which are those that crates use", cited.trusted,
          [("crates.txt", END, "zh_planted: zh_disk libc\n"), ("README.md", "`hex` in", "`planted` in")],
          ["does not say that libc is trusted", "does not say that hex is trusted", "trusts planted, which no crate uses"]),
-    Rule("written", "DEFINITIONS lists what the headline reaches, PROVED quotes it and counts the evidence, layers.svg draws the layers",
-         written.differences,
+    Rule("written", "DEFINITIONS lists what the headline reaches, PROVED quotes it and counts the evidence", written.differences,
          [("docs/DEFINITIONS.md", r"^- \[`zh_", "- [`planted"), (PROVED, "(?<=### What `Headline` says\n\n)", "- planted\n"),
-          (SPEC, END, "abbrev pub planted : ℕ\n"), ("docs/layers.svg", ">text, office<", ">planted<")],
-         [r"DEFINITIONS.md:\d+: .* writes '- \[`zh_", r"PROVED.md:\d+: .* writes '```text", r"writes '\| definitions \| ",
-          r"layers.svg:\d+: .*>text, office<"]),
+          (SPEC, END, "abbrev pub planted : ℕ\n")],
+         [r"DEFINITIONS.md:\d+: .* writes '- \[`zh_", r"PROVED.md:\d+: .* writes '```text", r"writes '\| definitions \| "]),
     # What the pages owe.
     Rule("said", "FORMATS and MANUAL say each reply, refusal, fault, task, table, argument and key", owed.said,
          [(SPECS, 'codes "stale"', 'codes "planted"')], ["FORMATS.md does not say `planted`", "MANUAL.md has no row of `planted`"]),
     Rule("limits", "FORMATS and MANUAL say each limit", owed.limits,
-         [(SOURCES, r"const MOST_ROWS: \w+ = [\d_]+;", "const MOST_ROWS: usize = 1_003;")], ["MANUAL.md does not say 1,003, MOST_ROWS"]),
+         [(SOURCES, r"const MOST_ROWS: \w+ = [\d_]+;", "const MOST_ROWS: usize = 1_003;")],
+         ["MANUAL.md does not say 1,003, a limit of zh_returns MOST_ROWS"]),
     Rule("columns", "a line has at most 80 characters", language.long_lines,
          [(FAQ, END, f"\n{'long ' * 16}!\n")], ["81 characters"]),
-    Rule("terms", "no word of the glossary stands before a link to it", language.terms,
-         [(FAQ, START, "A snapshot\n\n")], ["FAQ.md:1: 'snapshot' is explained elsewhere"]),
     Rule("translations", "a German page has the headings, blocks, rows, items, words in backticks, links and numbers of the English, no ß",
          language.translations,
          [(GERMAN, END, "\n- Spaß: 77777 `planted` [dort](BRIEF.md)\n\n| a | b |\n\n```text\nplanted\n```\n"),
@@ -81,11 +73,9 @@ RULES = [
          ["its headings are not those of docs/BRIEF.md", "ß in this section",
           *(f"{it} not in" for it in ("block", "row of a table", "item", "word in backticks", "link", "number"))]),
     # The examples of the pages.
-    Rule("left out", "each block that is not run is there, and has its reason", examples.left_out,
-         [(examples.LEFT_OUT, START, f"  {FAQ}: planted\n")], ["FAQ.md has no block 'planted'", "left_out begins without a reason"]),
     Rule("examples", "each block does what it shows", examples.examples,
          [*((page, START, "    $ exit 7\n\n") for page in chain(*examples.GROUPS) if page != FAQ),
           (FAQ, START, "    $ seq 2\n    1\n    $ (exit 3)\n\n```text\nplanted\n```\n\n")],
          [r"FAQ\.md:1: seq 2\s+the page: 1\s+printed:  1\s+printed:  2", r"FAQ\.md:1: .exit 3.\s+its status is 3",
-          r"FAQ\.md:6: planted: it is neither run nor left out", r"NIGHT\.md:1: exit 7\s+it ended the shell"]),
+          r"FAQ\.md:6: planted: it can't be run", r"NIGHT\.md:1: exit 7\s+it ended the shell"]),
 ]

@@ -2,38 +2,38 @@
 import re
 from collections import namedtuple
 from functools import cached_property, lru_cache
+from graphlib import TopologicalSorter
 from itertools import takewhile
 from pathlib import Path
 
+from edited.functions import declarations_of
+
 NAME = re.compile(r"[^\W\d]\w*'*(?:\.[^\W\d]\w*'*)*")
 USE = re.compile(r"(?:ghost )?use Rattle\.([\w.]+?)(?:\.\{(.*)\})?(?: as (\w+))?;?$")
+MODULE = re.compile(r"^module .*((?:\n(?:  .*|--.*|))*)", re.M)
 HEAD = re.compile(r"^(?:unfoldable |abbrev |record |data |pub )+(\S+)")
-OF_SOURCE = re.compile(r"^(?P<indent> *)(?:pub(?:\(\w+\))? |unsafe )*(?P<head>(?:impl|trait)\b[^{;]*){|^(?P<end> *)}|\bfn (?P<function>\w+)"
-                       r"|\bensures(?: (?P<clause>\w+))? {", re.M)
+ENSURES = re.compile(r"\bensures(?: (\w+))? {")
 
 Definition = namedtuple("Definition", "key crate module name line comment text")
 Clause = namedtuple("Clause", "crate path function name text")
 
 
 class Scope:
-    """What the names of a file stand for: full names below 'Rattle.', by the name or the alias that the file uses. And
-    the comment at the head of the file."""
+    """What the names of a file mean: full names below 'Rattle.', by the name or the alias that the file uses. And the comment at the head
+    of the file."""
 
     def __init__(self, head=""):
         self.names, self.modules, self.head = {}, {}, head
 
     def read(self, line):
         """Takes in an import, if the line is one."""
-        found = USE.match(line.strip())
-        if not found:
-            return False
-        path, listed, alias = found.groups()
-        if listed is None:
-            self.modules[alias or path.rsplit(".", 1)[1]] = path
-        for item in filter(None, (it.strip() for it in (listed or "").split(","))):
-            name, _, other = item.partition(" as ")
-            self.names[other or name] = f"{path}.{name}"
-        return True
+        if found := USE.match(line.strip()):
+            path, listed, alias = found.groups()
+            if listed is None:
+                self.modules[alias or path.rsplit(".", 1)[1]] = path
+            for name, other in re.findall(r"([^\s,]+)(?: as ([^\s,]+))?", listed or ""):
+                self.names[other or name] = f"{path}.{name}"
+        return bool(found)
 
     def full(self, word):
         """The full name of a word, dots and all; None if it is no name from elsewhere."""
@@ -46,17 +46,11 @@ class Scope:
 @lru_cache(None)
 def read_specs(crate, module, text):
     """The definitions of a file of specs, in order, each with the comment above it, and its scope."""
-    lines, found, indent, above = text.splitlines(), [], "", []
+    lines, found, above = MODULE.sub(lambda it: it[1].replace("\n  ", "\n"), text).splitlines(), [], []
     scope = Scope(" ".join(it.removeprefix("--").strip() for it in takewhile(lambda it: it.startswith("--"), lines)))
     for number, line in enumerate(lines, 1):
-        if line.startswith("use "):
-            scope.read(line)
+        if scope.read(line):
             continue
-        if line[:1].strip():
-            indent = "  " if line.startswith("module ") else indent if line.startswith("--") else ""
-        if line.startswith("module "):
-            continue
-        line = line.removeprefix(indent)
         head = HEAD.match(line)
         if head and head[1] != "mod" and not (found and head[1] == found[-1].name):
             found.append(Definition(f"{crate}.specs.{module}.{head[1]}", crate, module, head[1], number, " ".join(above), []))
@@ -71,33 +65,17 @@ def read_specs(crate, module, text):
 
 @lru_cache(None)
 def read_source(crate, path, text):
-    """The code of a file of src without its comments and imports, its scope, and its `ensures` clauses."""
-    scope = Scope()
+    """The code of a file of src without its comments and imports, its scope, and its `ensures` clauses; of a function without any an
+    empty one."""
+    scope, found = Scope(), []
     lines = [re.sub(r"(^|\s)//.*", "", line) for line in text.splitlines()]
-    code = "\n".join("" if scope.read(line) else line for line in lines)
-    return code, scope, [Clause(crate, path, *it) for it in clauses_of(code)]
-
-
-def clauses_of(code):
-    """Function, name and text of each clause; of a function without any an empty one."""
-    owner, found = ("", ""), {}
-    for it in OF_SOURCE.finditer(code):
-        if it["head"]:
-            owner = it["indent"], f"{owner_of(it['head'])}::"
-        elif it["end"] is not None:
-            owner = ("", "") if it["end"] == owner[0] else owner
-        elif it["function"]:
-            last = found.setdefault((owner[1] + it["function"], it.start()), [])
-        else:
-            last.append((it["clause"] or "", block_at(code, it.end())))
-    return [(function, *it) for (function, _), clauses in found.items() for it in clauses or [("", "")]]
-
-
-def owner_of(head):
-    """The type of an impl, `Trait for Type` where it is one of a trait, or the trait's name."""
-    head = re.sub(r"^(impl|trait)(<[^{]*?>(?= ))?", "", " ".join(head.split())).strip()
-    head = re.sub(r"<[^<>]*>", "", re.sub(r"<[^<>]*>", "", head)).split(" where ")[0]
-    return (head if "::" in head else head.split(":")[0]).strip()
+    lines = ["" if scope.read(line) else line for line in lines]
+    for it in declarations_of(path, "\n".join(lines)):
+        owner = f"{it.trait} for {it.of}" if it.trait else it.of
+        contract = "\n".join(lines[it.start - 1:it.body - 1])
+        clauses = [(clause[1] or "", block_at(contract, clause.end())) for clause in ENSURES.finditer(contract)]
+        found += [Clause(crate, path, "::".join(filter(None, (owner, it.name))), *clause) for clause in clauses or [("", "")]]
+    return "\n".join(lines), scope, found
 
 
 def block_at(code, start):
@@ -110,7 +88,7 @@ def block_at(code, start):
 
 
 class Tree:
-    """All pages and crates of a repository, as they stand when they are read."""
+    """All pages and crates of a repository."""
 
     def __init__(self, top):
         self.top = Path(top)
@@ -155,39 +133,27 @@ class Tree:
         return operators | {full for word in NAME.findall(text) if (full := scope.full(word))}
 
     def closure(self, clauses):
-        """The definitions that these clauses rest on, and the other names that they use: types and words of the kit."""
+        """The definitions that these clauses rest on."""
         return self.followed(set().union(*[self.used_by(it.text, self.sources[it.path][1]) for it in clauses]))
 
     def unreached(self):
         """The definitions on which no clause, law or ghost field of the sources rests, in order."""
-        reached, _ = self.followed(set().union(*[self.used_by(*it[:2]) for it in self.sources.values()]))
+        reached = self.followed(set().union(*[self.used_by(*it[:2]) for it in self.sources.values()]))
         return [key for key in self.definitions if key not in reached]
 
     def followed(self, names):
-        """The definitions that these names lead to, and the other names that they use."""
-        reached, others, todo = set(), set(), set(names)
+        """The definitions that these names lead to."""
+        reached, todo = set(), set(names)
         while todo:
             key = todo.pop()
-            it = self.definitions.get(key)
-            if it and key not in reached:
+            if key in self.definitions and key not in reached:
                 reached.add(key)
-                todo |= self.used_by("\n".join(it.text), self.specs[f"{it.crate}.specs.{it.module}"][1]) - {key}
-            elif not it:
-                others.add(key)
-        return reached, others
+                it = self.definitions[key]
+                todo |= self.used_by("\n".join(it.text), self.specs[f"{it.crate}.specs.{it.module}"][1])
+        return reached
 
     def in_order(self, crate):
-        """The definitions of a crate, files that use no other first."""
-        seen, done = set(), []
-
-        def place(module):
-            if module in self.specs and module.startswith(f"{crate}.") and module not in seen:
-                seen.add(module)
-                scope = self.specs[module][1]
-                for full in [*scope.names.values(), *scope.modules.values()]:
-                    place(".".join(full.split(".")[:3]))
-                done.append(module)
-
-        for module in self.specs:
-            place(module)
-        return [it.key for module in done for it in self.specs[module][0]]
+        """The definitions of a crate, each file's after those of the files that it uses."""
+        uses = {module: sorted({".".join(it.split(".")[:3]) for it in [*scope.names.values(), *scope.modules.values()]} - {module})
+                for module, (_, scope) in self.specs.items() if module.startswith(f"{crate}.")}
+        return [it.key for module in TopologicalSorter(uses).static_order() if module in uses for it in self.specs[module][0]]
