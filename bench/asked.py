@@ -3,12 +3,14 @@ import ctypes
 import os
 import re
 import subprocess
+import tempfile
+from functools import lru_cache
 from pathlib import Path
 
 BENCH = Path(__file__).resolve().parent
 LINES = 32
-FOUND, NO_VOTES, TIED, EXHAUSTED, IMPOSSIBLE, NEARLY_TIED, BEYOND = range(7)
 Numbers, Divisors, Cells = ctypes.c_uint32 * LINES, ctypes.c_uint64 * LINES, ctypes.c_uint32 * LINES**2
+FUNCTIONS = {"search": "search", "lot": "search", "question": "find", "decision": "decide"}
 
 
 class Question(ctypes.Structure):
@@ -27,10 +29,10 @@ def compiled(folder, name, *flags):
     return folder / name
 
 
-def question_of(lines):
-    """The question that these lines spell: a line of rows, of columns, and of the votes of each row."""
-    rows, columns, *votes = (tuple(map(int, it.split()[1:])) for it in lines)
-    return Question((len(rows), len(columns)), sum(votes, ()), (rows, columns))
+@lru_cache(maxsize=None)
+def library():
+    with tempfile.TemporaryDirectory() as folder:
+        return ctypes.CDLL(str(compiled(Path(folder), "decision", "-shared", "-fPIC")))
 
 
 def listed(word, cells, columns):
@@ -38,51 +40,37 @@ def listed(word, cells, columns):
     return "; ".join([word, *(" ".join(map(str, row)) for row in rows)])
 
 
-def spelled(q, o):
-    """An outcome as the cases say it."""
-    rows, columns = q.lines
-    seats, others = o.seats[:rows * columns], o.others[:rows * columns]
+def answer(ask, lines):
+    """What C answers to a turn of the cases with a question: a line of rows, of columns, and of the votes of each row. A search also has
+    the number of its half-steps."""
+    rows, columns, *votes = (tuple(map(int, it.split()[1:])) for it in lines)
+    q, o = Question((len(rows), len(columns)), sum(votes, ()), (rows, columns)), Outcome()
+    library()[FUNCTIONS[ask]](ctypes.byref(q), ctypes.byref(o))
+    width, cells = len(columns), len(rows) * len(columns)
+    seats, others = o.seats[:cells], o.others[:cells]
+    if ask == "lot":
+        return f"{listed('least', seats, width)}; {listed('most', others, width)}"
     of_rows, of_columns = (" ".join(map(str, of_side[:n])) for of_side, n in zip(o.divisors, q.lines))
-    other = next((k for k in range(rows * columns) if seats[k] != others[k]), 0)
-    return {
-        FOUND: f"{listed('seats', seats, columns)}; rows {of_rows}; columns {of_columns}",
-        NO_VOTES: f"no votes {o.row + 1}",
-        TIED: f"tied {o.row + 1} {o.column + 1}",
-        EXHAUSTED: "exhausted",
-        IMPOSSIBLE: " ".join(["impossible", *(str(d + 1) for d in range(rows) if o.too_few[d])]),
-        NEARLY_TIED: f"nearly tied {other // columns + 1} {other % columns + 1}",
-        BEYOND: listed("beyond", seats, columns),
-    }[o.answer]
+    other = next((k for k in range(cells) if seats[k] != others[k]), 0)
+    said = [  # by `enum answer`
+        f"{listed('seats', seats, width)}; rows {of_rows}; columns {of_columns}",
+        f"no votes {o.row + 1}",
+        f"tied {o.row + 1} {o.column + 1}",
+        "exhausted",
+        " ".join(["impossible", *(str(d + 1) for d in range(len(rows)) if o.too_few[d])]),
+        f"nearly tied {other // width + 1} {other % width + 1}",
+        listed("beyond", seats, width),
+    ][o.answer]
+    return f"{said}; half-steps {o.half_steps}" if ask == "search" else said
 
 
-class Asked:
-    """What C says of questions; the C of bench/ that finds and decides is compiled into this folder."""
-
-    def __init__(self, folder):
-        self.c = ctypes.CDLL(str(compiled(Path(folder), "decision", "-shared", "-fPIC")))
-
-    def outcome(self, function, q):
-        """What `search`, `decide` or `find` makes of a question."""
-        o = Outcome()
-        self.c[function](ctypes.byref(q), ctypes.byref(o))
-        return o
-
-    def answer(self, ask, q):
-        """The answer to a turn with a question; after a search also how many half-steps it took."""
-        o = self.outcome({"question": "find", "decision": "decide"}.get(ask, "search"), q)
-        if ask == "lot":
-            cells, columns = q.lines[0] * q.lines[1], q.lines[1]
-            return f"{listed('least', o.seats[:cells], columns)}; {listed('most', o.others[:cells], columns)}"
-        return f"{spelled(q, o)}; half-steps {o.half_steps}" if ask == "search" else spelled(q, o)
-
-    def wrong(self, paths):
-        """The turns of these files that C does not answer as they say."""
-        for path in paths:
-            text = path.read_text()
-            files = dict(re.findall(r"^file (\S+)\n((?:  .*\n)*)end file$", text, re.M))
-            turns = re.findall(r"^((search|question|decision|lot) (.*) -> (.*))$", text, re.M)
-            yield from [] if turns else [f"{path.name} asks nothing"]
-            for turn, ask, asked, wanted in turns:
-                answer = self.answer(ask, question_of(files[asked].splitlines() if asked in files else asked.split(", ")))
-                if answer != wanted:
-                    yield f"{path.name}: {turn}: {answer}"
+def wrong(path):
+    """The turns of a file that C does not answer as it says."""
+    text = path.read_text()
+    files = dict(re.findall(r"^file (\S+)\n((?:  .*\n)*)end file$", text, re.M))
+    turns = re.findall(r"^((search|question|decision|lot) (.*) -> (.*))$", text, re.M)
+    yield from [] if turns else [f"{path.name} asks nothing"]
+    for turn, ask, asked, wanted in turns:
+        found = answer(ask, files[asked].splitlines() if asked in files else asked.split(", "))
+        if found != wanted:
+            yield f"{path.name}: {turn}: {found}"
