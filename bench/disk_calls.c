@@ -32,11 +32,9 @@ static void settle(int file, int folder) {
 static int open_file(char *path) {
     char beside[4096];
     snprintf(beside, sizeof beside, "%s-wal", path);
-    int file = open(path, O_RDWR | O_CLOEXEC);
-    expect(file >= 0, path);
-    int log = open(beside, O_RDWR | O_CREAT | O_EXCL | O_CLOEXEC, 0600);
+    int file = open(path, O_RDWR | O_CLOEXEC), log = open(beside, O_RDWR | O_CREAT | O_EXCL | O_CLOEXEC, 0600);
     int folder = open(dirname(path), O_RDONLY | O_CLOEXEC);
-    expect(log >= 0 && folder >= 0, beside);
+    expect(file >= 0 && log >= 0 && folder >= 0, beside);
     settle(log, folder);
     settle(file, folder);
     close(folder);

@@ -215,13 +215,6 @@ static void set_lines(const struct question *q, struct outcome *o, enum side sid
     }
 }
 
-/* Whether the search is over: seats are found, or tied. */
-static int ends(const struct question *q, struct outcome *o) {
-    int differ = round_ways(q, o);
-    o->answer = o->row < 0 ? FOUND : TIED;
-    return o->row < 0 ? differ == 0 : differ > 0;
-}
-
 void search(const struct question *q, struct outcome *o) {
     uint64_t votes[LINES] = {0};
     memset(o, 0, sizeof *o);
@@ -234,11 +227,12 @@ void search(const struct question *q, struct outcome *o) {
     for (int g = 0; g < q->lines[COLUMNS]; g++)
         o->divisors[COLUMNS][g] = ONE;
     set_lines(q, o, ROWS, 1);
-    for (; !ends(q, o); o->half_steps++) {
-        if (o->half_steps == 2 * ROUNDS) {
-            o->answer = EXHAUSTED;
+    for (;; o->half_steps++) {
+        int differ = round_ways(q, o);
+        int is_over = o->row < 0 ? differ == 0 : differ > 0;
+        o->answer = !is_over ? EXHAUSTED : o->row < 0 ? FOUND : TIED;
+        if (is_over || o->half_steps == 2 * ROUNDS)
             return;
-        }
         set_lines(q, o, o->half_steps % 2 ? ROWS : COLUMNS, 0);
     }
 }

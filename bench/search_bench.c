@@ -18,12 +18,9 @@ static uint64_t next_number(void) {
 
 /* Seats of a house in proportion to weights; 0 where they are tied: the next seat is worth as much as the last one. */
 static int apportion(int n, const uint64_t *weights, uint32_t house, uint32_t *seats) {
-    uint64_t ones[LINES];
-    for (int k = 0; k < n; k++) {
-        ones[k] = 1;
-        seats[k] = 0;
-    }
+    static const uint64_t ones[LINES] = {[0 ... LINES - 1] = 1};
     struct line l = {n, 1, weights, ones, house};
+    memset(seats, 0, LINES * sizeof *seats);
     int last = give(&l, seats), next = next_cell(&l, seats);
     return (u128)weights[next] * (2 * seats[last] - 1) < (u128)weights[last] * (2 * seats[next] + 1);
 }
@@ -72,8 +69,8 @@ int main(int argc, char **argv) {
     int alone = strcmp(argv[1], "decide") == 0, are_equal = strcmp(argv[1], "lot") == 0, elections = atoi(argv[5]);
     uint32_t house = (uint32_t)atoi(argv[4]);
     uint64_t first = argc > 6 ? (uint64_t)atoll(argv[6]) : 1;
-    int found = 0, tied = 0, exhausted = 0;
-    long half_steps = 0, decided = 0;
+    int found = 0, tied = 0, exhausted = 0, decided = 0;
+    long half_steps = 0;
     q.lines[ROWS] = atoi(argv[2]);
     q.lines[COLUMNS] = atoi(argv[3]);
     for (int election = 0; election < elections; election++) {
@@ -89,6 +86,6 @@ int main(int argc, char **argv) {
         if (o.answer == FOUND || (are_equal && o.answer == TIED))
             mix_found(&q, &o);
     }
-    printf("%d found, %d tied, %d exhausted, %llu\n%ld %ld\n", found, tied, exhausted, (unsigned long long)sum, half_steps, decided);
+    printf("%d found, %d tied, %d exhausted, %llu\n%ld %d\n", found, tied, exhausted, (unsigned long long)sum, half_steps, decided);
     return 0;
 }
