@@ -1,9 +1,8 @@
-/* Finds the seats of made-up elections of a shape: WHAT ROWS COLUMNS HOUSE ELECTIONS [FIRST].
+/* Finds the seats of made-up elections of a shape: WHAT ROWS COLUMNS HOUSE ELECTIONS.
  *
- * WHAT is `find`, the search and the decision where that is exhausted, `decide`, the decision alone, or `lot`, the search
- * where all votes are equal, and the seats that the lot decides. FIRST is the number of the first election, or 1. It prints
- * the answers and a number that the divisors and seats lead to, as the proved program does. A second line has the half-steps
- * and how many of the elections have their seats by the decision. */
+ * WHAT is `find`, the search and the decision where that is exhausted, `decide`, the decision alone, or `lot`, the search where all votes
+ * are equal, and the seats that the lot decides. It prints the answers and a number that the divisors and seats lead to, as the proved
+ * program does. A second line has the half-steps, and how many of the elections have their seats by the decision. */
 #include "decision.c"
 
 #include <stdio.h>
@@ -64,17 +63,16 @@ static void mix_found(const struct question *q, const struct outcome *o) {
 int main(int argc, char **argv) {
     static struct question q;
     static struct outcome o;
-    if (argc < 6)
+    if (argc != 6)
         return 2;
     int alone = strcmp(argv[1], "decide") == 0, are_equal = strcmp(argv[1], "lot") == 0, elections = atoi(argv[5]);
     uint32_t house = (uint32_t)atoi(argv[4]);
-    uint64_t first = argc > 6 ? (uint64_t)atoll(argv[6]) : 1;
     int found = 0, tied = 0, exhausted = 0, decided = 0;
     long half_steps = 0;
     q.lines[ROWS] = atoi(argv[2]);
     q.lines[COLUMNS] = atoi(argv[3]);
-    for (int election = 0; election < elections; election++) {
-        if (!make(&q, house, first + (uint64_t)election, are_equal))
+    for (int election = 1; election <= elections; election++) {
+        if (!make(&q, house, (uint64_t)election, are_equal))
             continue;
         if (alone)
             decide(&q, &o);
