@@ -121,17 +121,13 @@ static void turn(const struct question *q, const struct sweep *w, uint32_t *seat
 
 /* ---- divisors in millionths: boxes from 2^20, 2^16, 2^12, 2^8 and 2^4 on ---- */
 
-/* The number from 2^bits on with this logarithm, rounded down. */
-static uint64_t number_of(uint64_t log, int bits, uint64_t most) {
-    uint64_t low = (uint64_t)1 << bits, high = most + 1;
-    while (high - low > 1) {
-        uint64_t middle = low + (high - low) / 2;
-        if (logarithm(middle) <= log)
-            low = middle;
-        else
-            high = middle;
-    }
-    return low;
+/* The greatest number up to `most` that has no more than this logarithm. */
+static uint64_t number_of(uint64_t log, uint64_t most) {
+    uint64_t number = 0;
+    for (uint64_t bit = BASE; bit > 0; bit /= 2)
+        if (number + bit <= most && logarithm(number + bit) <= log)
+            number += bit;
+    return number;
 }
 
 static int gives_within(const struct priced *p, struct outcome *o, struct sweep *w) {
@@ -142,9 +138,9 @@ static int gives_within(const struct priced *p, struct outcome *o, struct sweep 
         if (sweep(p, box, w) != STILL)
             continue;
         for (int d = 0; d < p->q->lines[ROWS]; d++)
-            o->divisors[ROWS][d] = number_of(top - w->potentials[ROWS][d], bits, MOST[ROWS]);
+            o->divisors[ROWS][d] = number_of(top - w->potentials[ROWS][d], MOST[ROWS]);
         for (int g = 0; g < p->q->lines[COLUMNS]; g++)
-            o->divisors[COLUMNS][g] = number_of(w->potentials[COLUMNS][g], bits, MOST[COLUMNS]);
+            o->divisors[COLUMNS][g] = number_of(w->potentials[COLUMNS][g], MOST[COLUMNS]);
         return 1;
     }
     return 0;
