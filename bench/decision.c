@@ -1,13 +1,11 @@
-/* What there is for a question: no matrix on the votes, the only seats, two matrices that are nearly tied, or seats that the
- * divisors of a sheet do not show.
+/* The decision of a question: that no matrix on the votes has the totals, the only seats, two matrices that are nearly tied, or seats
+ * that the divisors of a sheet do not show. And the search with the decision after it.
  *
  * A seat's price is the logarithm of an odd number less that of twice its cell's votes. Potentials of rows and columns show that
  * no exchange of seats is cheaper, or a cycle of cells shows one that is. */
-#include "search.h"
+#include "search.c"
 
-#include <string.h>
-
-enum { ODDS = 402, LEVELS = LINES + 1, NONE = LINES, GIVEN = 4102, TAKEN = 6 };
+enum { ODDS = 402, LEVELS = LINES + 1, NONE = LINES, GIVEN = 4102, TAKEN = 6, MIDDLES = 16 };
 
 static const uint64_t BASE = (uint64_t)1 << 60;
 
@@ -22,9 +20,9 @@ static uint64_t logarithm(uint64_t number) {
     uint64_t whole = 63 - (uint64_t)__builtin_clzll(number), part = number << (63 - whole), sum = whole;
     for (int bit = 0; bit < 30; bit++) {
         u128 square = (u128)part * part;
-        int twice = square >> 127 != 0;
-        part = (uint64_t)(square >> (63 + twice));
-        sum = 2 * sum + (uint64_t)twice;
+        int is_set = square >> 127 != 0;
+        part = (uint64_t)(square >> (63 + is_set));
+        sum = 2 * sum + (uint64_t)is_set;
     }
     return sum;
 }
@@ -123,17 +121,13 @@ static void turn(const struct question *q, const struct sweep *w, uint32_t *seat
 
 /* ---- divisors in millionths: boxes from 2^20, 2^16, 2^12, 2^8 and 2^4 on ---- */
 
-/* The number from 2^bits on with this logarithm, rounded down. */
-static uint64_t number_of(uint64_t log, int bits, uint64_t most) {
-    uint64_t low = (uint64_t)1 << bits, high = most + 1;
-    while (high - low > 1) {
-        uint64_t middle = low + (high - low) / 2;
-        if (logarithm(middle) <= log)
-            low = middle;
-        else
-            high = middle;
-    }
-    return low;
+/* The greatest number up to `most` that has no more than this logarithm. */
+static uint64_t number_of(uint64_t log, uint64_t most) {
+    uint64_t number = 0;
+    for (uint64_t bit = BASE; bit > 0; bit /= 2)
+        if (number + bit <= most && logarithm(number + bit) <= log)
+            number += bit;
+    return number;
 }
 
 static int gives_within(const struct priced *p, struct outcome *o, struct sweep *w) {
@@ -144,9 +138,9 @@ static int gives_within(const struct priced *p, struct outcome *o, struct sweep 
         if (sweep(p, box, w) != STILL)
             continue;
         for (int d = 0; d < p->q->lines[ROWS]; d++)
-            o->divisors[ROWS][d] = number_of(top - w->potentials[ROWS][d], bits, MOST[ROWS]);
+            o->divisors[ROWS][d] = number_of(top - w->potentials[ROWS][d], MOST[ROWS]);
         for (int g = 0; g < p->q->lines[COLUMNS]; g++)
-            o->divisors[COLUMNS][g] = number_of(w->potentials[COLUMNS][g], bits, MOST[COLUMNS]);
+            o->divisors[COLUMNS][g] = number_of(w->potentials[COLUMNS][g], MOST[COLUMNS]);
         return 1;
     }
     return 0;
@@ -155,20 +149,18 @@ static int gives_within(const struct priced *p, struct outcome *o, struct sweep 
 /* ---- the decision ---- */
 
 /* A first matrix on the votes with the totals; 0 where there is none: the rows for which no seat can be placed have too few. */
-static int place(const struct question *q, struct outcome *o) {
+static int place_first(const struct question *q, struct outcome *o) {
     static struct places p, trial;
     memcpy(p.lacks, q->totals, sizeof p.lacks);
     for (int k = 0; k < q->lines[ROWS] * q->lines[COLUMNS]; k++)
         p.most[k] = q->votes[k] ? UINT32_MAX : 0;
-    if (place_all(q, &p)) {
-        memcpy(o->seats, p.given, sizeof o->seats);
-        return 1;
-    }
-    for (int d = 0; d < q->lines[ROWS]; d++) {
+    int are_placed = place_all(q, &p);
+    memcpy(o->seats, p.given, sizeof o->seats);
+    for (int d = 0; d < q->lines[ROWS] && !are_placed; d++) {
         trial = p;
         o->too_few[d] = !place_one(q, &trial, d);
     }
-    return 0;
+    return are_placed;
 }
 
 /* The cycle of the least slack of next seats at which there is one. */
@@ -190,7 +182,7 @@ void decide(const struct question *q, struct outcome *o) {
     static struct priced p;
     static struct sweep w;
     o->answer = IMPOSSIBLE;
-    if (!place(q, o))
+    if (!place_first(q, o))
         return;
     p.q = q;
     p.seats = o->seats;
@@ -208,4 +200,87 @@ void decide(const struct question *q, struct outcome *o) {
     o->answer = NEARLY_TIED;
     memcpy(o->others, o->seats, sizeof o->others);
     turn(q, &w, o->others);
+}
+
+/* ---- divisors for seats that are known, in the middle of those that give them ---- */
+
+/* The least rows and the greatest columns that give the seats, columns from `top` on: the rows rise and then the columns fall, as far
+ * as their cells require. 0 where one passes a limit. */
+static int settle(const struct question *q, struct outcome *o, uint64_t top) {
+    uint64_t *rows = o->divisors[ROWS], *columns = o->divisors[COLUMNS];
+    int width = q->lines[COLUMNS], cells = q->lines[ROWS] * width, moved = 1;
+    for (int k = 0; k < cells; k++) {
+        rows[k / width] = 1;
+        columns[k % width] = top;
+    }
+    for (int round = 0; moved && round < ROUNDS; round++) {
+        for (int k = 0; k < cells; k++) {
+            u128 least = least_divisor(q->votes[k], columns[k % width], o->seats[k]);
+            if (least > MOST[ROWS])
+                return 0;
+            if (least > rows[k / width])
+                rows[k / width] = (uint64_t)least;
+        }
+        moved = 0;
+        for (int k = 0; k < cells; k++) {
+            u128 greatest = o->seats[k] ? greatest_divisor(q->votes[k], rows[k / width], o->seats[k]) : top;
+            if (greatest == 0)
+                return 0;
+            if (greatest < columns[k % width]) {
+                columns[k % width] = (uint64_t)greatest;
+                moved = 1;
+            }
+        }
+    }
+    return 1;
+}
+
+/* Whether the seats follow from the divisors, none of them from a half. */
+static int is_strict(const struct question *q, const struct outcome *o) {
+    static struct outcome x;
+    x = *o;
+    return round_ways(q, &x) == 0 && x.row < 0 && memcmp(x.seats, o->seats, sizeof x.seats) == 0;
+}
+
+/* Whether the middle gives the seats, from these columns at a smaller scale, or else from themselves. */
+static int middle_gives(const struct question *q, struct outcome *o, uint64_t scale) {
+    uint64_t columns[LINES];
+    memcpy(columns, o->divisors[COLUMNS], sizeof columns);
+    for (int g = 0; g < q->lines[COLUMNS]; g++)
+        o->divisors[COLUMNS][g] = columns[g] < scale ? 1 : columns[g] / scale;
+    for (int n = 0; n < MIDDLES; n++) {
+        set_lines(q, o, ROWS, 1);
+        set_lines(q, o, COLUMNS, 1);
+    }
+    if (is_strict(q, o))
+        return 1;
+    memcpy(o->divisors[COLUMNS], columns, sizeof columns);
+    return scale > 1 && middle_gives(q, o, 1);
+}
+
+static int find_divisors(const struct question *q, struct outcome *o, const uint32_t *seats) {
+    memcpy(o->seats, seats, sizeof o->seats);
+    for (uint64_t top = MOST[COLUMNS] / 1000; top <= MOST[COLUMNS]; top *= 1000)
+        if (settle(q, o, top) && is_strict(q, o) && middle_gives(q, o, top / ONE))
+            return 1;
+    return 0;
+}
+
+/* The search, or else seats by the decision: 1 where they are by that. */
+int find(const struct question *q, struct outcome *o) {
+    static struct outcome x;
+    search(q, o);
+    if (o->answer != EXHAUSTED)
+        return 0;
+    x = *o;
+    decide(q, &x);
+    if ((x.answer != IMPOSSIBLE && find_divisors(q, o, x.seats)) || (x.answer == NEARLY_TIED && find_divisors(q, o, x.others))) {
+        o->answer = FOUND;
+        return 1;
+    }
+    *o = x;
+    /* The divisors of the decision are made easier to read where the seats still follow. */
+    if (x.answer == FOUND && !middle_gives(q, o, ONE))
+        *o = x;
+    return x.answer == FOUND;
 }

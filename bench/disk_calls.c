@@ -1,7 +1,6 @@
-/* Makes the calls of a disk's opening, and then those of so many appended records: DISK PAGES RECORDS.
- *
- * It judges nothing: it reads no lines, checks nothing that it reads, and what it writes is made up. Each record is
- * answered. The disk has to be formatted, with an empty journal in slot 1 if there is a record. */
+/* Makes the calls of a disk's opening, and then those of records that are appended: DISK PAGES RECORDS, with the pages of a record and
+ * the number of records. It judges nothing: it reads no lines, checks nothing that it reads, and writes made-up bytes. It answers each
+ * record. The disk has to be formatted, with an empty journal in slot 1 if there is a record. */
 #include <err.h>
 #include <fcntl.h>
 #include <libgen.h>
@@ -33,11 +32,9 @@ static void settle(int file, int folder) {
 static int open_file(char *path) {
     char beside[4096];
     snprintf(beside, sizeof beside, "%s-wal", path);
-    int file = open(path, O_RDWR | O_CLOEXEC);
-    expect(file >= 0, path);
-    int log = open(beside, O_RDWR | O_CREAT | O_EXCL | O_CLOEXEC, 0600);
+    int file = open(path, O_RDWR | O_CLOEXEC), log = open(beside, O_RDWR | O_CREAT | O_EXCL | O_CLOEXEC, 0600);
     int folder = open(dirname(path), O_RDONLY | O_CLOEXEC);
-    expect(log >= 0 && folder >= 0, beside);
+    expect(file >= 0 && log >= 0 && folder >= 0, beside);
     settle(log, folder);
     settle(file, folder);
     close(folder);
@@ -73,14 +70,13 @@ static void append(int file, int page, int pages) {
 }
 
 int main(int argc, char **argv) {
-    int pages = argc == 4 ? atoi(argv[2]) : -1, records = argc == 4 ? atoi(argv[3]) : -1;
-    if (pages < 0 || records < 0 || pages * records > JOURNAL_LENGTH / PAGE)
+    if (argc != 4)
         return 2;
-    int file = open_file(argv[1]);
+    int pages = atoi(argv[2]), records = atoi(argv[3]), file = open_file(argv[1]);
     open_disk(file);
     for (int k = 0; k < records; k++) {
         append(file, k * pages, pages);
         expect(write(1, "1 stored 1\n", 11) == 11, "write");
     }
-    return close(file) == 0 ? 0 : 1;
+    return close(file) != 0;
 }

@@ -1,20 +1,27 @@
-/* Finds the seats of made-up elections of a shape: WHAT ROWS COLUMNS HOUSE ELECTIONS [FIRST].
+/* Finds the seats of made-up elections of a shape: WHAT ROWS COLUMNS HOUSE ELECTIONS.
  *
- * WHAT is `find`, the search and the decision where that is exhausted, `decide`, the decision alone, or `lot`, the search
- * where all votes are equal, and the seats that the lot decides. FIRST is the number of the first election, or 1. It prints
- * the answers, a number that the divisors and seats lead to, and, as errors, the half-steps and how many of the elections
- * have their seats by the decision. The proved program prints the first two. */
-#include "search.h"
+ * WHAT is `find`, the search and the decision where that is exhausted, `decide`, the decision alone, or `lot`, the search where all votes
+ * are equal, and the seats that the lot decides. It prints the answers and a number that the divisors and seats lead to, as the proved
+ * program does. A second line has the half-steps, and how many of the elections have their seats by the decision. */
+#include "decision.c"
 
 #include <stdio.h>
 #include <stdlib.h>
-#include <string.h>
 
-static uint64_t state;
+static uint64_t state, sum;
 
 static uint64_t next_number(void) {
     state = state * 6364136223846793005u + 1442695040888963407u;
     return state >> 33;
+}
+
+/* Seats of a house in proportion to weights; 0 where they are tied: the next seat is worth as much as the last one. */
+static int apportion(int n, const uint64_t *weights, uint32_t house, uint32_t *seats) {
+    static const uint64_t ones[LINES] = {[0 ... LINES - 1] = 1};
+    struct line l = {n, 1, weights, ones, house};
+    memset(seats, 0, LINES * sizeof *seats);
+    int last = give(&l, seats), next = next_cell(&l, seats);
+    return (u128)weights[next] * (2 * seats[last] - 1) < (u128)weights[last] * (2 * seats[next] + 1);
 }
 
 /* Votes of many magnitudes, or equal ones; totals in proportion to their sums. 0 where these are tied, or a line gets no seat. */
@@ -37,40 +44,35 @@ static int make(struct question *q, uint32_t house, uint64_t election, int are_e
     return 1;
 }
 
-static uint64_t mixed(uint64_t sum, uint64_t number) {
-    return (sum ^ number) * 1099511628211u;
+static void mix(uint64_t number) {
+    sum = (sum ^ number) * 1099511628211u;
 }
 
-/* The number that what was found leads to: divisors and seats, or the fewest and the most seats of each cell at a tie. */
-static uint64_t mixed_in(uint64_t sum, const struct question *q, const struct outcome *o) {
+/* Mixes what was found into the sum: divisors and seats, or the fewest and the most seats of each cell at a tie. */
+static void mix_found(const struct question *q, const struct outcome *o) {
     int cells = q->lines[ROWS] * q->lines[COLUMNS];
     for (int side = ROWS; side <= COLUMNS && o->answer == FOUND; side++)
         for (int k = 0; k < q->lines[side]; k++)
-            sum = mixed(sum, o->divisors[side][k]);
+            mix(o->divisors[side][k]);
     for (int k = 0; k < cells; k++)
-        sum = mixed(sum, o->seats[k]);
+        mix(o->seats[k]);
     for (int k = 0; k < cells && o->answer == TIED; k++)
-        sum = mixed(sum, o->others[k]);
-    return sum;
+        mix(o->others[k]);
 }
 
 int main(int argc, char **argv) {
     static struct question q;
     static struct outcome o;
-    if (argc < 6)
+    if (argc != 6)
         return 2;
     int alone = strcmp(argv[1], "decide") == 0, are_equal = strcmp(argv[1], "lot") == 0, elections = atoi(argv[5]);
     uint32_t house = (uint32_t)atoi(argv[4]);
-    uint64_t first = argc > 6 ? (uint64_t)atoll(argv[6]) : 1;
+    int found = 0, tied = 0, exhausted = 0, decided = 0;
+    long half_steps = 0;
     q.lines[ROWS] = atoi(argv[2]);
     q.lines[COLUMNS] = atoi(argv[3]);
-    if (q.lines[ROWS] < 1 || q.lines[ROWS] > LINES || q.lines[COLUMNS] < 1 || q.lines[COLUMNS] > LINES)
-        return 2;
-    int found = 0, tied = 0, exhausted = 0;
-    long half_steps = 0, decided = 0;
-    uint64_t sum = 0;
-    for (int election = 0; election < elections; election++) {
-        if (!make(&q, house, first + (uint64_t)election, are_equal))
+    for (int election = 1; election <= elections; election++) {
+        if (!make(&q, house, (uint64_t)election, are_equal))
             continue;
         if (alone)
             decide(&q, &o);
@@ -80,9 +82,8 @@ int main(int argc, char **argv) {
         tied += o.answer == TIED;
         exhausted += o.answer != FOUND && o.answer != TIED;
         if (o.answer == FOUND || (are_equal && o.answer == TIED))
-            sum = mixed_in(sum, &q, &o);
+            mix_found(&q, &o);
     }
-    printf("%d found, %d tied, %d exhausted, %llu\n", found, tied, exhausted, (unsigned long long)sum);
-    fprintf(stderr, "%ld %ld\n", half_steps, decided);
+    printf("%d found, %d tied, %d exhausted, %llu\n%ld %d\n", found, tied, exhausted, (unsigned long long)sum, half_steps, decided);
     return 0;
 }

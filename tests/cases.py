@@ -2,37 +2,26 @@
 import re
 
 
+BLOCK = re.compile(r"^( *)repeat (\w+) = (.+?) *\n((?:.*\n)*?)\1end repeat *(?:\n|\Z)", re.M)
+
+
 def repeated(lines):
     """Lines in which `repeat n = 1 to 3` .. `end repeat` are written out (docs/CASES.md, "Repetitions")."""
-    lines, written = iter(lines), []
-    for line in lines:
-        match = re.match(r"\s*repeat (\w+) = (.+?)\s*$", line)
-        if not match:
-            written.append(line)
-            continue
-        depth, inside = 1, []
-        while depth > 0:
-            inside.append(next(lines))
-            depth += bool(re.match(r"\s*repeat ", inside[-1])) - (inside[-1].strip() == "end repeat")
-        for value in values(match[2]):
-            written += repeated([put(it, match[1], value) for it in inside[:-1]])
+    return BLOCK.sub(written_out, "\n".join(lines)).split("\n")
+
+
+def written_out(block):
+    """The lines of a repetition, once for each of its values."""
+    _, name, values, lines = block.groups()
+    span, written = re.fullmatch(r"(-?\d+) to (-?\d+)(?: by (\d+))?", values), ""
+    for value in range(int(span[1]), int(span[2]) + 1, int(span[3] or 1)) if span else map(str.strip, values.split(",")):
+        put = re.sub(rf"\{{{name}([+-]\d+)?\}}", lambda it: str(int(value) + int(it[1])) if it[1] else str(value), lines)
+        written += BLOCK.sub(written_out, put)
     return written
 
 
-def values(text):
-    span = re.fullmatch(r"(-?\d+) to (-?\d+)(?: by (\d+))?", text)
-    if span:
-        return [str(n) for n in range(int(span[1]), int(span[2]) + 1, int(span[3] or 1))]
-    return [value.strip() for value in text.split(",")]
-
-
-def put(line, name, value):
-    line = line.replace("{" + name + "}", value)
-    return re.sub(r"\{" + name + r"([+-]\d+)\}", lambda match: str(int(value) + int(match[1])), line)
-
-
 def coded(words):
-    """The bytes that groups of hexadecimal digits stand for, as `a5 01` or `ff*300`."""
+    """The bytes that groups of hexadecimal digits spell, for example `a5 01` or `ff*300`."""
     groups = [word.partition("*") for word in words]
     return b"".join(bytes.fromhex(digits) * int(times or 1) for digits, _, times in groups)
 
@@ -52,7 +41,7 @@ def write(line, files):
 
 
 def turns(path):
-    """(line, files) for each turn of a file of cases, with the files as they stand before it."""
+    """(line, files) for each turn of a file of cases, with the files as they are before it."""
     files, writing = {}, None
     for line in repeated(path.read_text().split("\n")):
         text = line.strip()

@@ -1,7 +1,7 @@
 /* Preloaded under a program, it refuses the allocation whose number is in REFUSE, or fails the call of a file whose number is in FAIL,
- * and then makes the file REACHED. Where WITHIN has the name of a file, those allocations count alone that are made while it is open,
- * each time from 1 on; of TURNS times one after the other, only at the one with the number TURN, from 0 on. And it takes as many bytes of
- * the standard output as are in OUTPUT, of standard error as in ERRORS, and then fails each write there. Descriptors up to 2 are no files. */
+ * and then makes the file REACHED. If WITHIN names a file, only allocations while that file is open count, each time from 1 on; and of
+ * TURNS times one after the other, only those at the time with the number TURN, from 0 on. It takes as many bytes of standard output as
+ * OUTPUT says, of standard error as ERRORS says, and then fails each write there. Descriptors up to 2 are not files. */
 #define _GNU_SOURCE
 #include <dlfcn.h>
 #include <errno.h>
@@ -39,12 +39,12 @@ static int fails(int file) {
     return 1;
 }
 
-/* The function that this one stands before, as `next`. */
+/* The function that this one is called in place of, as `next`. */
 #define NEXT(name) \
     static __typeof__(&name) next; \
     if (!next) next = (__typeof__(&name))dlsym(RTLD_NEXT, #name)
 
-/* A path is no descriptor: each opening counts. */
+/* Each opening counts: it has no descriptor yet. */
 int open(const char *path, int flags, ...) {
     va_list more;
     va_start(more, flags);

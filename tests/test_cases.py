@@ -6,15 +6,14 @@ import pytest
 
 from places import PROGRAM_OF_CASES
 
-WRONG_PLACE = "setup rehearsal\n\ncase a wrong place\nholds slot2.gate+1 00\nholds {place} 00\n"
-WRONG_ANSWER = "setup rehearsal\n\ncase a wrong answer\nformat\nopen\n1 show 1 1 -> 1 shows 1 2\n"
+HEAD = "setup rehearsal\n\ncase a wrong one\n"
+PLACES = ("slot3", "slot1.journal", "journal", "Slot1", "+1")
 
 
 @pytest.mark.parametrize("text, fault", [
-    *(pytest.param(WRONG_PLACE.format(place=it), "5: there is no such place", id=it)
-      for it in ("slot3", "slot1.journal", "journal", "Slot1", "+1")),
-    pytest.param(WRONG_ANSWER, "6: '1 show 1 1': expected '1 shows 1 2', found '1 none'", id="a wrong answer"),
-])
+    *((f"{HEAD}holds slot2.gate+1 00\nholds {it} 00\n", "5: there is no such place") for it in PLACES),
+    (f"{HEAD}format\nopen\n1 show 1 1 -> 1 shows 1 2\n", "6: '1 show 1 1': expected '1 shows 1 2', found '1 none'"),
+], ids=[*PLACES, "a wrong answer"])
 def test_refused(text, fault, tmp_path):
     (tmp_path / "wrong.case").write_text(text)
     ran = subprocess.run([PROGRAM_OF_CASES, "wrong.case"], cwd=tmp_path, capture_output=True, text=True)

@@ -14,12 +14,13 @@ TURNS = 16
 REPORT = re.compile(r"line (\d+): '.*(?:memory|device)'")
 
 
-def faults_of_turns(room, name, library):
-    """What is wrong where each allocation is refused to each turn `refuse` of a file of cases (docs/CASES.md): in a run that of one number,
-    to every sixteenth of these turns, so that an office that was opened anew serves between. Each has to report one."""
+def faults_of_turns(name, room, library):
+    """What is wrong where each allocation of each turn `refuse` of a file of cases is refused (docs/CASES.md). A run refuses those of one
+    number to every sixteenth of these turns, so that an office that was opened anew serves between. Each turn has to report one."""
+    shutil.copytree(CASES, room, dirs_exist_ok=True)
     cases, found, reported = Preloaded(library, room), [], set()
     whole = cases.run(PROGRAM_OF_CASES, name, WITHIN="refuse")
-    assert (whole.status, whole.said) == (0, ""), f"without a refusal: {whole.said}"
+    assert (whole.status, whole.said) == (0, "")
     for turn in range(TURNS):
         for number in itertools.count(1):
             it = cases.run(PROGRAM_OF_CASES, name, REFUSE=number, TURN=turn, TURNS=TURNS, WITHIN="refuse")
@@ -33,30 +34,23 @@ def faults_of_turns(room, name, library):
     return found + [f"{name}:{it}: no allocation was refused" for it in sorted(wanted - reported)]
 
 
-@pytest.fixture
-def room(tmp_path):
-    """A folder with what the cases read."""
-    return shutil.copytree(CASES, tmp_path / "room")
-
-
 @pytest.mark.parametrize("path", sorted(CASES.glob("refused_*.case")), ids=lambda it: it.stem)
-def test_turns(path, room, library):
-    assert not faults_of_turns(room, path.name, library)
+def test_turns(path, tmp_path, library):
+    assert not faults_of_turns(path.name, tmp_path, library)
 
 
 @pytest.mark.parametrize("text, fault", [
     ("refuse 1 show 1 1 -> 1 none", "wrong.case:6: no allocation was refused"),
     ("1 close 1 -> 1 stored 1\nrefuse 1 sheet -> 1 refused nogroup", "something changed"),
 ], ids=["a turn that takes no memory", "a count that is another"])
-def test_mistake_is_seen(text, fault, room, library):
-    (room / "wrong.case").write_text(f"setup rehearsal\ncase a mistake\nformat\nopen\nhold\n{text}\n")
-    found = faults_of_turns(room, "wrong.case", library)
-    assert any(fault in it for it in found), found
+def test_mistake_is_seen(text, fault, tmp_path, library):
+    (tmp_path / "wrong.case").write_text(f"setup rehearsal\ncase a mistake\nformat\nopen\nhold\n{text}\n")
+    assert fault in "\n".join(faults_of_turns("wrong.case", tmp_path, library))
 
 
 @pytest.mark.parametrize("test", ["a_disk_is_written", "a_set_up_is_read"])
 def test_test(test, tmp_path, library):
-    """A test is refused each allocation that it makes; its set-up, which comes first, may not stand that: the first runs may fail."""
+    """A test is refused each allocation that it makes. The first runs may fail, since its set-up, which comes first, need not bear that."""
     held = 0
     for number in itertools.count(1):
         it = Preloaded(library, tmp_path).run(PROGRAM_OF_TESTS, f"tests::refused_memory::{test}", REFUSE=number)

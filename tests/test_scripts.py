@@ -116,7 +116,7 @@ def test_a_slow_input_is_whole(sh, command, answers):
     ("touch -d '+1 hour' $LOW", PROVED),
     ("echo changed text > crates/zh_bench/src/lib.rt", PROVED),  # zhcount does not use it
     ("mkdir crates/zh_low/proofs; touch crates/zh_low/proofs/New.antt", UNPROVED),
-    ("echo '# a remark' >> crates.txt", UNPROVED),
+    ("sed -i 's/^zh_low: /&itoa /' crates.txt", UNPROVED),  # another library
     ("sed -i 's/kit of/other &/' bin/rt", UNPROVED),  # another toolchain
     (f"{CHANGE}; (cd crates/zhcount && rt run); {CHANGE_BACK}", UNPROVED),  # another program
     (f"{CHANGE}; HELD=yes make -s build > log & {AT_WORK}; kill $!; wait; touch go", UNPROVED),
