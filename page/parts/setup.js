@@ -61,19 +61,16 @@ function inRange({ value, line, text }, least, most) {
 }
 
 function needed(table, keys) {
-  for (const key of keys) {
-    if (!table.values[key]) throw new Fault(table.line, table.text, 'missing', { key });
-  }
+  const key = keys.find((one) => !table.values[one]);
+  if (key) throw new Fault(table.line, table.text, 'missing', { key });
 }
 
-// The names of tables of one kind, each once.
-function namesOf(tables) {
-  const names = new Set();
-  for (const { values: { name } } of tables) {
-    if (!isName(name.value)) throw new Fault(name.line, name.text, 'name');
-    if (names.has(name.value)) throw new Fault(name.line, name.text, 'nameTwice');
-    names.add(name.value);
-  }
+// The names of tables of one kind differ.
+function checkNames(names) {
+  names.forEach(({ value, line, text }, i) => {
+    if (!isName(value)) throw new Fault(line, text, 'name');
+    if (names.findIndex((one) => one.value === value) < i) throw new Fault(line, text, 'nameTwice');
+  });
 }
 
 function readSetup(text) {
@@ -87,7 +84,7 @@ function readSetup(text) {
   const [constituencies, municipalities, groups] = Object.entries(tables).map(([kind, found]) => {
     found.forEach((table) => needed(table, Object.keys(KEYS[kind])));
     if (found.length === 0) throw new Fault(1, '', 'missing', { key: kind });
-    namesOf(found);
+    checkNames(found.map(({ values }) => values.name));
     return found.map(({ values }) => values);
   });
   constituencies.forEach(({ persons }) => inRange(persons, 1, 10000000));
