@@ -6,17 +6,16 @@ const tick = (state, key, values, ...sentence) => ({ state, heading: words(key, 
 
 function setupTick({ own, setup: { is, line } }) {
   if (is === 'read') return own.kind?.isSetup ? tick('mismatch', 'tickSetupOther') : tick('right', 'tickSetup');
-  return is === 'none'
-    ? tick('unsure', 'tickNoSetup', {}, words('barNoSetup')) : tick('unsure', 'tickSetupUnread', { line }, words('barSetupUnread'));
+  if (is === 'none') return tick('unsure', 'tickNoSetup', {}, words('barNoSetup'));
+  return tick('unsure', 'tickSetupUnread', { line }, words('barSetupUnread'));
 }
 
 // Rows are compared only where their set-up is read.
 function rowsTick({ own, rows, returns }) {
-  const others = own.votesDiffer && rows.is === 'compared';
   if (rows.is === 'none') return tick('unsure', 'tickNoRows', {}, words('barNoRows'));
   if (rows.is === 'unread') return tick('unsure', 'tickRowsUnread', { line: rows.line }, words('barRowsUnread'));
   if (rows.is === 'given') return tick('unsure', 'tickRowsAlone', {}, words('barRowsAlone'));
-  if (others) return tick(own.kind.colour, 'tickRowsOther', returns, words('rowIs'));
+  if (own.votesDiffer) return tick(own.kind.colour, 'tickRowsOther', returns, words('rowIs'));
   const missing = returns.possible - returns.rows;
   return missing > 0 ? tick('unsure', 'tickRowsSome', returns, words('rowIs')) : tick('right', 'tickRows', returns, words('rowIs'));
 }
@@ -40,27 +39,19 @@ function checksTick({ own, proved, setup, rows, returns }) {
   return tick(unless, 'tickOne', said, why);
 }
 
-// Three ticks: the set-up and the rows held were given, and both checks say the same.
-const ticksOf = (found) => [setupTick(found), rowsTick(found), checksTick(found)];
-
-// Files that were not opened.
-function notOpened({ setup, rows }) {
-  if (setup.is === 'none') return [words(rows.is === 'none' ? 'barOpenBoth' : 'barOpenSetup')];
-  return rows.is === 'none' ? [words('barOpenRows')] : [];
-}
-
-// What is said of a sheet that is right by this page's own check, and of which not all is checked: a heading, and what limits it.
-function unsureSays(found) {
-  const { setup, rows, returns, proved } = found;
-  const [caveat] = notOpened(found);
-  if (setup.is !== 'read') return { heading: words('barOwnVotes'), caveat, sentence: [words('barUnsureSays')] };
-  if (rows.is !== 'compared') return { heading: words('barTheseVotes'), caveat, sentence: [words('barUnsureSays')] };
-  const missing = returns.possible - returns.rows;
-  if (missing > 0) {
-    const sentence = [words('barMissingAre', { missingRows: { rows: returns.missing } }), words('barUnsureSays')];
-    return { heading: words('barMissing', { ...returns, missing }), caveat: words('barMissingSays'), sentence };
+// What the bar says of a sheet that is right by this page's own check, and not checked in full: a heading, and what limits it.
+function unsureSays({ setup, rows, returns, proved }) {
+  const sentence = [words('barUnsureSays')];
+  if (setup.is !== 'read' || rows.is !== 'compared') {
+    const open = setup.is === 'none' ? (rows.is === 'none' ? 'barOpenBoth' : 'barOpenSetup') : rows.is === 'none' && 'barOpenRows';
+    return { heading: words(setup.is === 'read' ? 'barTheseVotes' : 'barOwnVotes'), caveat: open && words(open), sentence };
   }
-  return { heading: words(proved.state === 'runs' ? 'barRunning' : 'barOneCheck'), sentence: [words('barUnsureSays')] };
+  const missing = returns.possible - returns.rows;
+  if (missing === 0) return { heading: words(proved.state === 'runs' ? 'barRunning' : 'barOneCheck'), sentence };
+  return {
+    heading: words('barMissing', { ...returns, missing }), caveat: words('barMissingSays'),
+    sentence: [words('barMissingAre', { missingRows: { rows: returns.missing } }), ...sentence],
+  };
 }
 
 // The two checks have different verdicts.
@@ -72,16 +63,17 @@ function differing(own, { setup, rows }) {
     : { heading: words('barProvedWrong'), sentence: [words('barProvedWrongSays')] };
 }
 
-// - own: what this page's own check says: { verdict: 'none' (no sheet), 'right', 'refused' with the `refusal` that stands in place of a
-//   sheet, or 'wrong' with its `kind` (kindOfWrong), the first `fault` (of line 0: of the whole file), the `count` of those that fail, and
-//   whether its `votesDiffer` from the rows held }
-// - proved: what the proved check says: { state: 'right', 'wrong', 'runs', 'none' (no sheet), 'alone' (no set-up), 'absent' (this
-//   copy of the page has none), or any other: it did not run, and `why` }
+// The bar by all that was found:
+// - own, by this page's own check: { verdict: 'none' (no sheet), 'right', 'refused' with the `refusal` in place of a sheet, or 'wrong' with
+//   its `kind` (kindOfWrong), the first `fault` (of line 0: of the whole file), the `count` of those that fail, and whether its
+//   `votesDiffer` from the rows held }
+// - proved, by the proved check: { state: 'right', 'wrong', 'runs', 'none' (no sheet), 'alone' (no set-up), 'absent' (this copy of the page
+//   has none), or any other: it did not run, and `why` }
 // - setup: { is: 'none', 'read', or 'unread' at a `line` }
-// - rows: { is: 'none', 'compared', 'unread' at a `line`, or 'given', not compared, for that needs a set-up that is read }
+// - rows: { is: 'none', 'compared', 'unread' at a `line`, or 'given' without a set-up that is read, so that they are not compared }
 // - returns: where rows are compared, { rows } held of { possible } ones, and the names of those that are { missing }
-// Gives the colour ('none', 'right', 'wrong', 'mismatch' of two files, 'damaged', 'unsure', or 'answer' of the office), and keys of WORDS
-// with their values: of the heading, if there is one, of what limits it or takes it back, of each sentence, and of each tick.
+// It has a colour ('none', 'right', 'wrong', 'mismatch' of two files, 'damaged', 'unsure', or 'answer' of the office), and keys of WORDS
+// with their values: of the heading, if there is one, of the caveat that limits it, of each sentence, and of each tick.
 function barOf(found) {
   const { own, proved } = found;
   if (own.verdict === 'none') {
@@ -92,7 +84,7 @@ function barOf(found) {
       ...(found.returns ? [] : [words('barRefusedMore')])];
     return { colour: 'answer', heading: words('barRefused'), sentence, ticks: [] };
   }
-  const ticks = own.kind?.isUnread ? [] : ticksOf(found);
+  const ticks = own.kind?.isUnread ? [] : [setupTick(found), rowsTick(found), checksTick(found)];
   if (hasVerdict(proved) && proved.state !== own.verdict) return { colour: 'wrong', ...differing(own, found), ticks };
   if (own.verdict === 'wrong') {
     const named = own.kind.sentence.filter(({ fault }) => fault).length;

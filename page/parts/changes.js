@@ -37,25 +37,24 @@ function changesOf(before, now) {
 const signed = (number) => grouped(number > 0n ? `+${number}` : `${number}`.replace('-', '−'));
 const cell = (value) => make('td', {}, typeof value === 'bigint' ? grouped(value) : value);
 
+function changeTable(before, sheet) {
+  const found = changesOf(before, sheet);
+  const lines = sheet.lines.flatMap((text, i) => (text === before.lines[i] ? [] : [i + 1]));
+  if (found.length === 0) return make('p', {}, lines.length > 0 ? say('onlyLines', { lines: lines.join(', ') }) : say('nothingChanged'));
+  const names = (one) => [...one.constituencies, ...one.groups].map(({ name }) => name).join('\n');
+  const rows = found.map((one) => make('tr', {}, make('th', { scope: 'row' }, one.what), cell(one.was), cell(one.now),
+    make('td', {}, one.difference === null ? '' : signed(one.difference))));
+  const heads = ['what', 'was', 'now', 'difference'].map((key) => say(key));
+  return [names(before) === names(sheet) ? null : make('p', { class: 'hint' }, say('otherOrder')),
+    make('div', { class: 'scroll' }, tableOf({ 'aria-labelledby': 'changes-title' }, heads, rows))];
+}
+
 function changes({ sheet, before, beforeParts }) {
   if (!sheet || !before) return null;
   const faults = before.fault ? [before.fault] : beforeParts.flatMap((part) => part.faults);
   const own = faults.find((fault) => !isOfOther(fault));
   const warning = own ? make('p', { class: 'said wrong' }, say('beforeWrong', { line: own.line }))
-    : faults.length > 0 ? make('p', { class: 'hint' }, say('beforeOther', { line: faults[0].line })) : null;
-  const heading = [make('h2', { id: 'changes-title' }, say('changes')), warning];
-  if (!before.found) return make('section', { id: 'changes' }, heading);
-  const found = changesOf(before.found, sheet);
-  const names = (one) => [...one.constituencies, ...one.groups].map(({ name }) => name).join('\n');
-  const other = names(before.found) === names(sheet) ? null : make('p', { class: 'hint' }, say('otherOrder'));
-  const lines = sheet.lines.flatMap((text, i) => (text === before.found.lines[i] ? [] : [i + 1]));
-  if (found.length === 0) {
-    const text = lines.length > 0 ? say('onlyLines', { lines: lines.join(', ') }) : say('nothingChanged');
-    return make('section', { id: 'changes' }, heading, make('p', {}, text));
-  }
-  const rows = found.map((one) => make('tr', {}, make('th', { scope: 'row' }, one.what), cell(one.was), cell(one.now),
-    make('td', {}, one.difference === null ? '' : signed(one.difference))));
-  const heads = ['what', 'was', 'now', 'difference'].map((key) => say(key));
-  return make('section', { id: 'changes' }, heading, other,
-    make('div', { class: 'scroll' }, tableOf({ 'aria-labelledby': 'changes-title' }, heads, rows)));
+    : faults.length > 0 && make('p', { class: 'hint' }, say('beforeOther', { line: faults[0].line }));
+  return make('section', { id: 'changes' }, make('h2', { id: 'changes-title' }, say('changes')), warning,
+    before.found && changeTable(before.found, sheet));
 }

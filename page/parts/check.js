@@ -13,7 +13,11 @@ class Part {
   expect(holds, { line, text }, reason, values = {}) {
     this.count += 1;
     if (!holds) this.faults.push({ line, text, reason, values });
-    return holds;
+  }
+
+  // A check of a number on a line.
+  expectRange(number, row, least, most) {
+    this.expect(number >= least && number <= most, row, 'range', { least, most });
   }
 }
 
@@ -42,31 +46,25 @@ const twiceVotes = (list) => 2n * list.votes * MILLION * MILLION;
 
 function formPart(part, sheet, setup) {
   part.expect(sheet.commands < 2n ** 64n, sheet.head, 'manyCommands');
-  part.expect(sheet.house.seats >= 1n && sheet.house.seats <= 400n, sheet.house, 'range', { least: 1, most: 400 });
-  if (sheet.quorum) {
-    const { perMille } = sheet.quorum;
-    part.expect(perMille >= 1n && perMille <= 49n, sheet.quorum, 'range', { least: 1, most: 49 });
-  }
+  part.expectRange(sheet.house.seats, sheet.house, 1n, 400n);
+  if (sheet.quorum) part.expectRange(sheet.quorum.perMille, sheet.quorum, 1n, 49n);
   for (const rows of [sheet.constituencies, sheet.groups]) {
-    const names = new Set();
-    for (const row of rows) {
+    rows.forEach((row, i) => {
       part.expect(isName(row.name), row, 'name');
-      part.expect(!names.has(row.name), row, 'nameTwice');
-      names.add(row.name);
-    }
+      part.expect(rows.findIndex(({ name }) => name === row.name) === i, row, 'nameTwice');
+    });
   }
   for (const group of sheet.groups) part.expect(listsOf(sheet, group).length > 0, group, 'noLists');
   if (setup) sameSetup(part, sheet, setup);
   else part.left.push('leftForm');
 }
 
-// The sheet is one of this set-up: its house, quorum and names, and a line for each list that stands.
+// The sheet is one of this set-up: its house, quorum and names, and a line for each list of the set-up.
 function sameSetup(part, sheet, setup) {
   part.expect(sheet.house.seats === setup.house, sheet.house, 'setupHouse', { should: setup.house, is: sheet.house.seats });
-  const perMille = sheet.quorum ? sheet.quorum.perMille : null;
-  const where = sheet.quorum ?? sheet.constituencies[0];
+  const perMille = sheet.quorum?.perMille ?? null;
   const quorum = setup.quorum === null ? 'noQuorum' : perMille === null ? 'setupNoQuorum' : 'setupQuorum';
-  part.expect(perMille === setup.quorum, where, quorum, { should: setup.quorum, is: perMille });
+  part.expect(perMille === setup.quorum, sheet.quorum ?? sheet.constituencies[0], quorum, { should: setup.quorum, is: perMille });
   for (const kind of ['constituencies', 'groups']) {
     const rows = sheet[kind];
     rows.forEach((row, i) => {
@@ -75,13 +73,13 @@ function sameSetup(part, sheet, setup) {
       part.expect(row.name === should, row, reason, { should: named(should), is: named(row.name) });
     });
     const missing = setup[kind][rows.length];
-    if (missing) part.expect(false, rows[rows.length - 1], 'nextMissing', { name: named(missing.name) });
+    if (missing) part.expect(false, rows.at(-1), 'nextMissing', { name: named(missing.name) });
   }
   for (const list of sheet.lists) {
     const place = `${list.constituency} ${list.group}`;
     part.expect(setup.groups[list.group - 1]?.stands.has(list.constituency), list, 'standsNot', { place });
   }
-  const last = { line: sheet.lines.length, text: sheet.lines[sheet.lines.length - 1] };
+  const last = { line: sheet.lines.length, text: sheet.lines.at(-1) };
   setup.constituencies.forEach((_, d) => setup.groups.forEach(({ stands }, g) => {
     const place = `${d + 1} ${g + 1}`;
     const next = sheet.lists.find(({ constituency, group }) => constituency > d + 1 || (constituency === d + 1 && group > g));
@@ -95,7 +93,7 @@ function votesPart(part, sheet, setup, held) {
     part.expect(votes === constituency.votes, constituency, 'votesSum', { should: votes, is: constituency.votes });
   }
   const most = 10n ** 14n;
-  part.expect(allVotes(sheet) <= most, sheet.constituencies[sheet.constituencies.length - 1], 'allVotes', { most, is: allVotes(sheet) });
+  part.expect(allVotes(sheet) <= most, sheet.constituencies.at(-1), 'allVotes', { most, is: allVotes(sheet) });
   if (!held) part.left.push(setup ? 'leftVotes' : 'leftVotesSetup');
   for (const list of held ? sheet.lists : []) {
     const votes = held.votes.get(`${list.constituency} ${list.group}`) ?? 0n;
@@ -103,41 +101,35 @@ function votesPart(part, sheet, setup, held) {
   }
 }
 
-// Seats of weights by one key. The lines are those of the weights; `total` has to be the sum of the seats.
-function singlePart(part, rows, key, total, lineOfTotal) {
-  const weights = rows.map(({ weight }) => weight);
+// Seats of weights by one key: those of the house in all. Each weight is that of a row, which has its seats.
+function singlePart(part, house, key, rows, weights) {
   const seats = rows.map((row) => row.seats);
   const rule = keyOf(weights, seats);
-  const fits = (one) => one !== null && one.a > 0n && one.b > 0n
-    && weights.every((weight, i) => rounds(2n * weight * one.b, one.a, seats[i]));
-  const is = `${key.a}/${key.b}`;
-  const isRule = rule !== null && rule.a === key.a && rule.b === key.b;
+  const holds = (one, i) => one.a > 0n && one.b > 0n && rounds(2n * weights[i] * one.b, one.a, seats[i]);
+  const fits = (one) => one !== null && rows.every((_, i) => holds(one, i));
+  const [should, is] = [rule, key].map((one) => (one ? `${one.a}/${one.b}` : '-'));
+  const isRule = should === is;
   // Where the seats are right, it is the key that is wrong.
-  if (!fits(key) && fits(rule) && sum(seats) === total) part.expect(false, key, 'keyIs', { should: `${rule.a}/${rule.b}`, is });
+  if (!fits(key) && fits(rule) && sum(seats) === house.seats) part.expect(false, key, 'keyIs', { should, is });
   else {
-    for (const row of rows) {
-      const holds = key.a > 0n && key.b > 0n && rounds(2n * row.weight * key.b, key.a, row.seats);
-      const found = quotient(row.weight * key.b, key.a);
-      part.expect(holds, row, found.half ? 'keyHalf' : 'keyRounds', { weight: row.weight, key: is, seats: row.seats, ...found });
-    }
+    rows.forEach((row, i) => {
+      const found = quotient(weights[i] * key.b, key.a);
+      const values = { weight: weights[i], key: is, seats: seats[i], ...found };
+      part.expect(holds(key, i), row, found.half ? 'keyHalf' : 'keyRounds', values);
+    });
   }
-  part.expect(sum(seats) === total, lineOfTotal, 'seatsSum', { sum: sum(seats), total });
-  if (part.faults.length === 0) {
-    part.expect(isRule, key, 'keyIs', { should: rule ? `${rule.a}/${rule.b}` : '-', is });
-  }
+  part.expect(sum(seats) === house.seats, house, 'seatsSum', { sum: sum(seats), total: house.seats });
+  if (part.faults.length === 0) part.expect(isRule, key, 'keyIs', { should, is });
 }
 
 function seatsPart(part, sheet, setup) {
   sheet.constituencies.forEach((row, i) => {
-    part.expect(row.persons >= 1n && row.persons <= 10000000n, row, 'range', { least: 1, most: 10000000 });
-    if (setup?.constituencies[i]) {
-      const should = setup.constituencies[i].persons;
-      part.expect(row.persons === should, row, 'setupPersons', { should, is: row.persons });
-    }
+    part.expectRange(row.persons, row, 1n, 10000000n);
+    const should = setup?.constituencies[i]?.persons;
+    if (should !== undefined) part.expect(row.persons === should, row, 'setupPersons', { should, is: row.persons });
     part.expect(row.seats >= 1n, row, 'noSeat');
   });
-  const rows = sheet.constituencies.map((row) => ({ ...row, weight: row.persons }));
-  singlePart(part, rows, sheet.seatsKey, sheet.house.seats, sheet.house);
+  singlePart(part, sheet.house, sheet.seatsKey, sheet.constituencies, sheet.constituencies.map(({ persons }) => persons));
   if (!setup) part.left.push('leftSeats');
 }
 
@@ -166,8 +158,8 @@ function groupsPart(part, sheet) {
     const needsDivisor = group.seats > 0n;
     part.expect((group.divisor !== null) === needsDivisor, group, needsDivisor ? 'divisorMissing' : 'divisorDash');
   }
-  const rows = sheet.groups.filter((group) => group.takesPart).map((row) => ({ ...row, weight: row.voters ?? 0n }));
-  singlePart(part, rows, sheet.upperKey, sheet.house.seats, sheet.house);
+  const rows = sheet.groups.filter((group) => group.takesPart);
+  singlePart(part, sheet.house, sheet.upperKey, rows, rows.map(({ voters }) => voters ?? 0n));
 }
 
 function listsPart(part, sheet) {

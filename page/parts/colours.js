@@ -1,12 +1,4 @@
 // ---- Colours that a reader chose for groups, by the groups' numbers. The address keeps them: #1=e30613&2=f29400
-Object.assign(WORDS, {
-  colours: ['Colours of the groups', 'Farben der Gruppen'],
-  coloursHint: ['Colours go by the groups’ numbers. You can choose the parties’ own; the address of this page keeps them.',
-    'Die Farben folgen den Nummern der Gruppen. Sie können die Farben der Parteien wählen; die Adresse dieser Seite behält sie.'],
-  colour: ['Colour', 'Farbe'],
-  colourOf: ['Colour of {group}', 'Farbe von {group}'],
-  coloursBack: ['Colours by number again', 'Wieder Farben nach Nummern'],
-});
 
 // Rules for the groups with a colour of their own come after those of the style, so they are the ones that hold.
 const [pageStyle] = document.styleSheets;
@@ -28,7 +20,7 @@ function haveColours(colours) {
   }
 }
 
-// Those of the address. What is not a number of a group and a colour counts for nothing.
+// Takes those of the address. A pair that is not the number of a group and a colour counts for nothing.
 function readColours() {
   const pairs = [...new URLSearchParams(location.hash.slice(1).toLowerCase())];
   haveColours(pairs.filter(([number, colour]) => /^(?:[1-9]|[12]\d|3[0-2])$/u.test(number) && /^[0-9a-f]{6}$/u.test(colour)));
@@ -40,7 +32,7 @@ function keepColours(colours) {
   showColours();
 }
 
-// What a group looks like: its colour, and its shape where more than eight have one.
+// The classes of a group: by them it has its colour, and its shape where more than eight have one.
 const lookOf = (number) => (
   `colour${(number - 1) % COLOURS} look${Math.floor((number - 1) / COLOURS)} group${number}`);
 
@@ -51,7 +43,7 @@ function showColours() {
   }
 }
 
-// A colour for each group, to be chosen. The part stays open where all is shown anew.
+// A colour for each group, to be chosen. The part stays open when all is made anew.
 function colourTable(groups) {
   const choose = (number) => ({ target }) => keepColours([...new Map(chosenColours).set(`${number}`, target.value.slice(1))]);
   const row = ({ name }, i) => {

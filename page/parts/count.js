@@ -1,17 +1,4 @@
 // ---- How far the count is, before there are seats: sums of this page's own
-Object.assign(WORDS, {
-  soFar: ['How far the count is', 'Wie weit die Auszählung ist'],
-  returnsIn: ['{rows} of {possible} {possible:return|returns} {rows:is|are} in',
-    '{rows} von {possible} {possible:Meldung|Meldungen} {rows:ist|sind} eingegangen'],
-  soFarSays: ['Computed by this page, not proved.', 'Von dieser Seite berechnet, nicht bewiesen.'],
-  soFarOpen: ['The missing returns can still change all of it.', 'Die fehlenden Meldungen können alles noch ändern.'],
-  heldByConstituency: ['Returns by constituency', 'Meldungen nach Wahlkreis'],
-  votesByGroup: ['Votes by group', 'Stimmen nach Gruppe'],
-  heldOfDue: ['{held} of {due}', '{held} von {due}'],
-  shareWord: ['Share', 'Anteil'], share: ['{share}%', '{share} %'],
-  quorumSoFar: ['Quorum so far', 'Quorum bisher'],
-  reachedMany: ['reached in {count} of {all}', 'erreicht in {count} von {all}'],
-});
 
 // The returns held and due of each constituency; the votes of each group, where its lists reach the quorum so far, and whether the group
 // does, there or in the canton; and all votes.
@@ -30,14 +17,14 @@ function countSoFar(setup, held) {
   };
 }
 
-// A share in per cent, rounded to two decimals; of nothing there is none.
+// A share in per cent, rounded to two decimals; a stroke where there are no votes.
 function shareOf(votes, all) {
   if (all === 0n) return '–';
   const hundredths = (20000n * votes + all) / (2n * all);
   return say('share', { share: `${hundredths / 100n}.${`${hundredths % 100n}`.padStart(2, '0')}` });
 }
 
-// A bar that is full where the part is the whole. The numbers beside it say the same.
+// A bar that is full where the part is the whole. The numbers next to it say the same.
 const gauge = (part, whole, look) => draw('svg', {
   viewBox: '0 0 100 8', preserveAspectRatio: 'none', class: `gauge ${look}`, 'aria-hidden': 'true' },
   draw('rect', { class: 'part', width: whole > 0 ? (100 * part) / whole : 0, height: 8 }));

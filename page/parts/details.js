@@ -5,11 +5,11 @@ const row = (name, ...what) => [make('dt', {}, name), make('dd', {}, what)];
 // That twice the votes lie between the two ends of the interval, in whole numbers.
 function wholeNumbers(twice, unit, seats, names, marked = true) {
   const holds = rounds(twice, unit, seats);
-  const low = seats > 0n ? `${2n * seats - 1n} × ${names.unit} = ${names.show(lowEnd(unit, seats))}` : null;
-  const high = `${2n * seats + 1n} × ${names.unit} = ${names.show(highEnd(unit, seats))}`;
-  const key = { true: low ? 'lies' : 'liesBelow', false: low ? 'liesNot' : 'liesNotBelow' }[holds];
-  const values = { twice: grouped(`2 × ${names.amount} = ${names.show(twice)}`), low: low && grouped(low), high: grouped(high) };
-  return row(say('whole'), say(key, values), ' ', marked ? mark(holds) : null);
+  const low = grouped(`${2n * seats - 1n} × ${names.unit} = ${names.show(lowEnd(unit, seats))}`);
+  const high = grouped(`${2n * seats + 1n} × ${names.unit} = ${names.show(highEnd(unit, seats))}`);
+  const key = seats > 0n ? (holds ? 'lies' : 'liesNot') : (holds ? 'liesBelow' : 'liesNotBelow');
+  const said = say(key, { twice: grouped(`2 × ${names.amount} = ${names.show(twice)}`), low, high });
+  return row(say('whole'), said, ' ', marked ? mark(holds) : null);
 }
 
 // The faults are those of the line, by which the table marks the cell: the panel's own mark, and what does not hold.
@@ -27,7 +27,7 @@ function detail(title, line, faults, rows, extra = null) {
 
 const seatsWord = (seats) => `${seats} ${say(seats === 1n ? 'seatOne' : 'seatsOf')}`;
 
-// The seats that follow, as far as they were looked for: where the sheet is wrong.
+// The seats that follow, which the page looks for if the sheet is wrong.
 const followRow = (follow, kind, place) => (
   follow ? row(say(follow.isOther ? 'seatsFollowOther' : 'seatsFollow'),
     seatsWord((kind === 'lists' ? follow.lists.get(place) : follow[kind][place - 1]) ?? 0n)) : null);
@@ -41,14 +41,11 @@ function listDetail(sheet, [constituency, group, list], faults, follow) {
   const unit = unitOf(sheet, list);
   const twice = twiceVotes(list);
   const product = `${constituency.divisorText} × ${group.divisorText}`;
-  const ends = {
-    low: grouped(exact(5n * (list.seats > 0n ? lowEnd(unit, list.seats) : 0n), 13)),
-    high: grouped(exact(5n * highEnd(unit, list.seats), 13)),
-  };
+  const [low, high] = [lowEnd, highEnd].map((end) => grouped(exact(5n * end(unit, list.seats), 13)));
   return detail(title, list, faults, [
     row(say('votesWord'), grouped(list.votes)),
     row(say('quotientWord'), grouped(`${list.votes} / (${product}) = `), roundsTo(quotient(twice, 2n * unit))),
-    row(say('withDivisors'), say(list.seats > 0n ? 'between' : 'below', { ...ends, unit: say('unitVotes') })),
+    row(say('withDivisors'), say(list.seats > 0n ? 'between' : 'below', { low, high, unit: say('unitVotes') })),
     wholeNumbers(twice, unit, list.seats, { unit: product, amount: list.votes, show: (number) => exact(number, 12) }),
     right,
   ]);
@@ -56,17 +53,16 @@ function listDetail(sheet, [constituency, group, list], faults, follow) {
 
 const roundsTo = (found) => say('roundsTo', { quotient: grouped(found.quotient), rounded: grouped(found.rounded) });
 
-// Seats by one key: the weight over it, and its interval in whole numbers. Of a key that is wrong itself this decides nothing.
+// Seats by one key: the weight over it, and its interval in whole numbers. If the key itself is wrong, this decides nothing.
 function keyRows([word, unit], weight, key, seats, isKeyWrong) {
-  const low = cutOff(seats > 0n ? lowEnd(key.a, seats) : 0n, 2n * key.b || 1n);
-  const high = cutOff(highEnd(key.a, seats), 2n * key.b || 1n);
+  const [low, high] = [lowEnd, highEnd].map((end) => grouped(cutOff(end(key.a, seats), 2n * key.b || 1n)));
   return [
     row(word, grouped(weight)),
     row(say('keyWord'), grouped(`${key.a}/${key.b}`),
       isKeyWrong ? make('span', { class: 'said wrong' }, ` ${say('keyWrong', { line: key.line })}`) : null),
     key.a > 0n && key.b > 0n ? [
       row(say('quotientWord'), grouped(`${weight} / (${key.a}/${key.b}) = `), roundsTo(quotient(weight * key.b, key.a))),
-      row(say('withKey'), say(seats > 0n ? 'between' : 'below', { low: grouped(low), high: grouped(high), unit })),
+      row(say('withKey'), say(seats > 0n ? 'between' : 'below', { low, high, unit })),
       wholeNumbers(2n * weight * key.b, key.a, seats, { unit: key.a, amount: `${key.b} × ${weight}`, show: String }, !isKeyWrong),
     ] : null,
   ];
@@ -93,7 +89,7 @@ function constituencyDetail(sheet, constituency, faults, { keys, follow }) {
 function quorumRow(sheet, group, lists) {
   const reached = lists.filter((list) => reachesQuorum(list.votes, constituencyFor(sheet, list).votes));
   const should = takesPart(sheet, group);
-  const names = reached.flatMap((list, i) => [i > 0 ? ', ' : '', isolated(constituencyFor(sheet, list).name)]);
+  const names = namesShown(reached.map((list) => constituencyFor(sheet, list).name));
   const how = reached.length > 0 ? pieces('reached', { names }) : say(should ? 'reachedCanton' : 'notReached');
   return row(say('quorumWord'), how, ' ', mark(should === group.takesPart));
 }

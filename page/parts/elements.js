@@ -4,21 +4,20 @@ const find = (id) => document.getElementById(id);
 /** @type {(part: Element, css: string) => HTMLElement | null} */
 const within = (part, css) => part.querySelector(css);
 
+// Those of these children, texts or elements, that are there.
+const present = (children) => children.flat(Infinity).filter((child) => ![null, undefined, false, ''].includes(child));
+
 function fill(element, attributes, children) {
   for (const [name, value] of Object.entries(attributes)) {
     if (name === 'onclick') element.addEventListener('click', value);
-    else if (value === true && !name.startsWith('aria-')) element.setAttribute(name, '');
-    else if ((value !== false || name.startsWith('aria-')) && value !== null && value !== undefined) element.setAttribute(name, `${value}`);
+    else if (value !== null && value !== false) element.setAttribute(name, value === true ? '' : `${value}`);
   }
-  element.append(...children.flat(Infinity).filter((child) => ![null, undefined, false, ''].includes(child)));
+  element.append(...present(children));
   return element;
 }
 
 // Puts these in the place of what is there.
-function put(id, ...children) {
-  find(id).replaceChildren();
-  fill(find(id), {}, children);
-}
+const put = (id, ...children) => find(id).replaceChildren(...present(children));
 
 const make = (tag, attributes = {}, ...children) => fill(document.createElement(tag), attributes, children);
 const draw = (tag, attributes = {}, ...children) => (
@@ -52,7 +51,7 @@ const isolated = (text, most) => make('bdi', {}, shown(text, most));
 const isolatedText = (text) => `\u2068${shown(text)}\u2069`;
 const code = (text) => make('code', {}, isolated(text, 400));
 
-// A long word may be parted by a hyphen after a vowel, before the last consonant that follows it; so it needs not break elsewhere.
+// A long word can be parted by a hyphen after a vowel, before the last consonant that follows it, so that it does not break elsewhere.
 const CONSONANT = '[bcdfghjklmnpqrstvwxzß]';
 const VOWEL = '[aeiouyäöüéèà]';
 const SYLLABLES = new RegExp(`(${VOWEL}${CONSONANT}{0,4}?)(?=(?:sch|ch|ck|ph|th|qu|${CONSONANT})${VOWEL})`, 'giu');
@@ -66,24 +65,21 @@ function narrowName(name) {
   return make('span', { class: `name${size}` }, make('bdi', {}, parted(name)));
 }
 
-// A sentence of WORDS in which one value is an element.
-const sentence = (key, name, element) => pieces(key, { [name]: element });
-
 // Marks a value of a fault as a name.
 const named = (name) => (name === undefined ? undefined : { name });
 
-// So many seats that change, or rows that are missing, are named.
+const namesShown = (names) => names.flatMap((it, i) => [i > 0 ? ', ' : '', isolated(it)]);
+
+// At most this many seats that change, or returns that are missing, are named.
 const MOST_CHANGES = 4;
 
-// The lists of a municipality whose rows are missing.
+// The lists of a municipality whose returns are missing.
 function missingShown({ name, lists, isAll }) {
   const which = isAll ? say('allLists') : lists.length > MOST_CHANGES ? say('manyLists', { count: lists.length }) : namesShown(lists);
   return [isolated(name), ': ', which];
 }
 
-const namesShown = (names) => names.flatMap((it, i) => [i > 0 ? ', ' : '', isolated(it)]);
-
-// Some of these, parted by semicolons, and how many more there are.
+// Some of these, separated by semicolons, and how many more there are.
 function someShown(all, one) {
   const few = all.length > MOST_CHANGES ? all.slice(0, MOST_CHANGES - 1) : all;
   const left = all.length - few.length;

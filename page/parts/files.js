@@ -2,14 +2,14 @@
 
 const files = { sheet: null, before: null, setup: null, held: null };
 
-// The most bytes of each kind (FORMATS): of an export all lines may end in CR LF.
+// The most bytes of each kind (FORMATS): all lines of an export may end in CR LF.
 const LONGEST = { sheet: 280064, before: 280064, setup: 1048576, held: 467103 + 16385 };
 const MOST_READ = LONGEST.setup + 1;
 
 // The other files of a published folder: tables, which are made of those that are read here, and the page.
 const OF_THE_FOLDER = /^\ufeff?(?:(?:constituency|group),[a-z0-9_,]+\r?\n|<!DOCTYPE html>)/u;
 
-// What kind of file this is, by its text and then its name.
+// The kind of a file, by its text and then its name.
 function kindOf(name, text) {
   if (/^\ufeff?(?:(?:[0-9]+ )?sheet |(?:(?:[0-9]|zhcount:) )?refused )/u.test(text)) return 'sheet';
   if (/^\ufeff?municipality,list/u.test(text) || /\.csv$/iu.test(name)) return 'held';
@@ -17,7 +17,7 @@ function kindOf(name, text) {
   return 'sheet';
 }
 
-// A file that was opened: its bytes as far as they were read, and its text or the fault that it has none.
+// A file that was opened: its bytes as far as they were read, and its text, or why it has none.
 function opened(name, bytes) {
   const file = { name, bytes, text: '', lines: 0, hash: bytes.length < MOST_READ ? sha256(bytes) : null };
   const begin = new TextDecoder('utf-8', { ignoreBOM: true }).decode(bytes.subarray(0, MOST_READ));
@@ -33,10 +33,7 @@ function opened(name, bytes) {
 }
 
 // A file of which the browser gives no bytes, for example a folder.
-function notRead(name) {
-  const file = { name, bytes: new Uint8Array(0), text: '', lines: 0, hash: null, kind: kindOf(name, '') };
-  return { ...file, fault: new Fault(0, '', 'unreadable') };
-}
+const notRead = (name) => ({ ...opened(name, new Uint8Array(0)), hash: null, fault: new Fault(0, '', 'unreadable') });
 
 // A text that was pasted or dropped. Its last line is ended.
 function pasted(text) {
@@ -44,31 +41,21 @@ function pasted(text) {
   return opened(say('pasted'), new TextEncoder().encode(cut.endsWith('\n') ? cut : `${cut}\n`).subarray(0, MOST_READ));
 }
 
-// How often files were given. Reading them takes a while, and what was given last wins, not what was read last.
+// How often files were given. Reading them takes a while, and the file that was given last wins, not the one that was read last.
 let times = 0;
-function nextTime() {
-  times += 1;
-  return times;
-}
+const nextTime = () => (times += 1);
 const isOlder = (time, file) => file !== null && time < file.time;
 
-// Takes files. A sheet takes the place of the one before it, which is kept to be compared. Of a whole folder some files are left.
+// Takes files. A sheet takes the place of the one before it, which is kept to be compared. Some files of a whole folder are left out.
 function takeFiles(read, time = nextTime()) {
-  const wanted = read.some(({ isLeft }) => !isLeft) ? read.filter(({ isLeft }) => !isLeft) : read;
-  const taken = wanted.map((file) => ({ ...file, time }));
+  const kept = read.filter(({ isLeft }) => !isLeft);
+  const taken = (kept.length > 0 ? kept : read).map((file) => ({ ...file, time }));
   const commands = ({ text }) => BigInt(/^(?:[1-8] )?sheet [a-z]{1,20} ([0-9]{1,20})\n/u.exec(text)?.[1] ?? 0);
-  const sheets = taken.filter(({ kind }) => kind === 'sheet');
-  sheets.sort((a, b) => (commands(a) < commands(b) ? -1 : Number(commands(a) > commands(b))));
-  for (const file of sheets) {
-    if (isOlder(time, files.sheet)) {
-      files.before = file;
-    } else {
-      if (files.sheet) files.before = files.sheet;
-      files.sheet = file;
-    }
-  }
+  taken.sort((a, b) => Number(commands(a) - commands(b)));
   for (const file of taken) {
-    if (file.kind !== 'sheet' && !isOlder(time, files[file.kind])) files[file.kind] = file;
+    const isLate = isOlder(time, files[file.kind]);
+    if (file.kind === 'sheet') files.before = isLate ? file : files.sheet ?? files.before;
+    if (!isLate) files[file.kind] = file;
   }
   show();
 }
@@ -97,42 +84,37 @@ function readFile(file, read) {
 
 const hashOf = ({ hash }) => (hash ? make('code', { class: 'hash' }, hash) : say('notHashed'));
 
-function removing(kind) {
-  const remove = () => {
-    files[kind] = null;
-    if (kind === 'sheet') { files.sheet = files.before; files.before = null; }
-    show();
-    find('pick').focus();
-  };
-  return button(say('remove'), remove, { 'aria-label': say('removeWhat', { what: say(kind) }) });
+function remove(kind) {
+  files[kind] = null;
+  if (kind === 'sheet') [files.sheet, files.before] = [files.before, null];
+  show();
+  find('pick').focus();
 }
 
 const fileLine = ([kind, file]) => make('li', { class: kind },
   make('span', { class: 'what' }, say(kind)), ' ', make('span', { class: 'file' }, isolated(file.name)), ' ',
-  make('span', { class: 'hint' }, say('lines', { count: file.lines })), ' ', removing(kind),
+  make('span', { class: 'hint' }, say('lines', { count: file.lines })), ' ',
+  button(say('remove'), () => remove(kind), { 'aria-label': say('removeWhat', { what: say(kind) }) }),
   make('span', { class: 'hint sum' }, 'SHA-256 ', hashOf(file)));
-
-// The files that a chancellery publishes, and what each has.
-const threeFiles = () => [['sheet', 'sheetSays'], ['setupFile', 'setupFileSays'], ['heldFile', 'heldFileSays']].map(([file, has]) => [
-  make('dt', {}, say(file)), make('dd', {}, say(has))]);
 
 function showFiles() {
   const picked = make('input', { type: 'file', id: 'pick', multiple: true, 'aria-describedby': 'choose' });
   picked.addEventListener('change', () => readFiles(picked.files));
   const area = make('textarea', { id: 'text', rows: 6, spellcheck: 'false', 'aria-label': say('paste'), 'aria-describedby': 'paste-hint' });
   const takeText = () => { if (area.value !== '') takeFiles([pasted(area.value)]); };
-  const had = Object.entries(files).filter(([, file]) => file).map(fileLine);
+  const published = [['sheet', 'sheetSays'], ['setupFile', 'setupFileSays'], ['heldFile', 'heldFileSays']];
   const exchange = () => { [files.sheet, files.before] = [files.before, files.sheet]; show(); };
   const swap = files.sheet && files.before && make('p', {}, button(say('swap'), exchange));
   put('files', make('h2', {}, say('files')),
-    make('div', { class: 'drop' }, make('p', {}, say('threeFiles')), make('dl', {}, threeFiles()),
+    make('div', { class: 'drop' }, make('p', {}, say('threeFiles')),
+      make('dl', {}, published.map(([file, has]) => [make('dt', {}, say(file)), make('dd', {}, say(has))])),
       make('p', { id: 'choose' }, say('drop')), picked,
       make('label', { for: 'pick' }, say('choose')),
       make('p', { class: 'hint' }, ['chooseCount', 'chooseMore', 'chooseOlder'].map((key) => say(key)).join(' '))),
     make('details', {}, make('summary', {}, say('paste')), area,
       make('p', { class: 'hint', id: 'paste-hint' }, say('pasteHint')),
       button(say('take'), takeText, { id: 'take' })),
-    make('ul', { class: 'had' }, had), swap);
+    make('ul', { class: 'had' }, Object.entries(files).filter(([, file]) => file).map(fileLine)), swap);
 }
 
 // On paper: which files these were.

@@ -1,7 +1,7 @@
 // ---- The seats that follow from votes, by the rules alone: neither the keys nor the divisors of a sheet are used
 
-// So many times the divisors of all rows and columns are looked for: right sheets take some twenty. What is not found then is said not to
-// be known.
+// The divisors of all rows and columns are looked for this many times: right sheets take about twenty. If none are found then, the page
+// says that it does not know the seats.
 const TURNS = 120;
 const FINE = 2 ** 40;
 
@@ -19,8 +19,8 @@ function apportioned(weights, total) {
   return key && key.a > 0n && weights.every((weight, i) => rounds(2n * weight * key.b, key.a, seats[i])) ? seats : null;
 }
 
-// A number by which these, divided, round to seats of this total: midway between the ends where others would. It is looked for from a
-// number near it. Null where there is none.
+// A divisor by which these amounts round to seats of this total, midway between the ends where other seats would follow; null if there is
+// none. It is looked for from a number near it.
 function fitting(amounts, total, near) {
   const seats = amounts.map((amount) => Math.round(amount / near));
   const nextWorth = (i) => amounts[i] / (seats[i] + 0.5);
@@ -66,8 +66,8 @@ function apportionedTwice(votes, rows, columns) {
   return null;
 }
 
-// What the seats follow from: set-up and rows held as far as they were read, and else what the sheet says. Null where a list's votes
-// are not known.
+// The numbers that the seats follow from: those of the set-up and the rows held as far as they were read, or else those of the sheet. Null
+// if the votes of a list are not known.
 function basisOf(sheet, setup, held) {
   const from = setup ?? sheet;
   const standsIn = (d, g) => (setup ? setup.groups[g].stands.has(d + 1) : sheet.at.has(`${d + 1} ${g + 1}`));
@@ -89,7 +89,7 @@ function takingPart({ votes, quorum }) {
   });
 }
 
-// The seats that follow: of each constituency, of each group, and of each list (`d g`). Null where this finds none.
+// The seats that follow: of each constituency, of each group, and of each list (`d g`). Null if this finds none.
 function seatsThatFollow(sheet, setup, held) {
   const basis = basisOf(sheet, setup, held);
   const rows = basis && apportioned(basis.persons, basis.house);
@@ -105,8 +105,8 @@ function seatsThatFollow(sheet, setup, held) {
   return { constituencies: rows, groups: columns, lists };
 }
 
-// Where the sheet has other seats than those: by names (of a constituency and a group, or of one of them for its total), what it
-// says and what follows.
+// The seats of the sheet that differ from those: the names (of a constituency and a group, or of one of them for its total), the seats on
+// the sheet and those that follow.
 function otherSeats(sheet, follow) {
   const found = [];
   const compare = (names, is = 0n, should = 0n) => { if (is !== should) found.push({ names, is, should }); };

@@ -5,19 +5,19 @@ const isNumeral = (text) => /^(?:0|[1-9][0-9]{0,9})$/u.test(text) && Number(text
 const isRow = (fields) => fields.length === 4 && fields.slice(0, 3).every(isNumeral) && fields[2] !== '0'
   && (isNumeral(fields[3]) || fields[3] === 'withdrawn');
 
-// The rows held: the votes of each list (`d g`), how many rows there are and may be, also within each constituency, and by municipality
+// The rows held: the votes of each list (`d g`), how many rows there are and can be, also within each constituency, and by municipality
 // the lists that are missing.
 function readHeld(text, setup) {
   const votes = new Map();
   const seen = new Set();
-  for (const [number, line] of linesOf(text === '' ? '\n' : text)) {
+  for (const [number, line] of linesOf(text)) {
     const fault = (reason) => new Fault(number, line, reason);
     if (number === 1 && line !== 'municipality,list,number,votes') throw fault('csvHead');
     if (number === 1 || line === '') continue;
     const fields = line.split(',');
     if (!isRow(fields)) throw fault('csvRow');
     const [municipality, list, , count] = fields;
-    const constituency = setup.municipalities[Number(municipality) - 1];
+    const constituency = setup.municipalities[Number(municipality) - 1]?.constituency;
     if (!constituency) throw fault('noMunicipality');
     if (!setup.groups[Number(list) - 1]?.stands.has(constituency)) throw fault('noListThere');
     const entry = count === 'withdrawn' ? 0n : BigInt(count);
@@ -27,10 +27,8 @@ function readHeld(text, setup) {
     const place = `${constituency} ${list}`;
     votes.set(place, (votes.get(place) ?? 0n) + entry);
   }
-  const all = setup.municipalities.map((d, m) => ({
-    name: setup.municipalityNames[m], constituency: d,
-    due: setup.groups.flatMap(({ name, stands }, g) => (stands.has(d) ? [{ name, row: `${m + 1} ${g + 1}` }] : [])),
-  }));
+  const dueOf = (d, m) => setup.groups.flatMap(({ name, stands }, g) => (stands.has(d) ? [{ name, row: `${m + 1} ${g + 1}` }] : []));
+  const all = setup.municipalities.map(({ name, constituency }, m) => ({ name, constituency, due: dueOf(constituency, m) }));
   const missing = all.map(({ name, due }) => {
     const lists = due.filter(({ row }) => !seen.has(row)).map((list) => list.name);
     return { name, lists, isAll: lists.length === due.length };
@@ -39,5 +37,5 @@ function readHeld(text, setup) {
     const due = all.filter(({ constituency }) => constituency === d + 1).flatMap((one) => one.due);
     return { held: due.filter(({ row }) => seen.has(row)).length, due: due.length };
   });
-  return { votes, rows: seen.size, possible: all.reduce((count, { due }) => count + due.length, 0), missing, within };
+  return { votes, rows: seen.size, possible: all.flatMap(({ due }) => due).length, missing, within };
 }

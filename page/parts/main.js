@@ -1,15 +1,16 @@
-// ---- What is found of the files that were opened, and shown
+// ---- What is found in the files that were opened, and how it is shown
 
-// What this page's own check says of the sheet, and the seats that follow, which are looked for where it is wrong.
+// The verdict of this page's own check on the sheet, and the seats that follow, which it looks for where the sheet is wrong.
 function ownOf(sheet, parts, faults, [setup, held]) {
-  const refusal = files.sheet && refusalIn(files.sheet.text);
-  if (refusal) return { verdict: 'refused', refusal: namedBy(setup, refusal) };
+  const refusal = files.sheet && refusalIn(files.sheet.text, setup);
+  if (refusal) return { verdict: 'refused', refusal };
   if (!sheet) return { verdict: 'none' };
   if (faults.length === 0) return { verdict: 'right' };
   const found = sheet.found ? followed(sheet.found, faults, setup, held) : null;
-  const kind = kindOfWrong(sheet.found, parts, faults, { follow: found, isHeld: Boolean(held) });
+  const changes = found && otherSeats(sheet.found, found);
+  const kind = kindOfWrong(sheet.found, parts, faults, { changes, isHeld: Boolean(held) });
   const votesDiffer = faults.some(({ reason }) => reason === 'votesHeld');
-  const follow = found && { ...found, says: kind.follows, isOther: kind.colour === 'mismatch' };
+  const follow = found && { ...found, says: kind.follows, isOther: kind.colour === 'mismatch', differs: changes.length > 0 };
   return { verdict: 'wrong', fault: faults[0], count: faults.length, kind, follow, votesDiffer };
 }
 
@@ -28,24 +29,23 @@ function judge() {
   const isCounted = held?.found && (own.verdict === 'none' || own.verdict === 'refused');
   const rows = held ? { is: held.found ? 'compared' : 'unread', line: held.fault?.line } : { is: files.held ? 'given' : 'none' };
   return {
-    own, setup: { is: setup?.found ? 'read' : setup ? 'unread' : 'none', line: setup?.fault?.line }, rows,
-    returns: held?.found && { rows: held.found.rows, possible: held.found.possible, missing: held.found.missing },
+    own, setup: { is: setup?.found ? 'read' : setup ? 'unread' : 'none', line: setup?.fault?.line }, rows, returns: held?.found,
     count: isCounted ? countSoFar(setup.found, held.found) : null,
-    sheet: sheet?.found, parts, faults, faultsAt: byLine(faults), others, before, held: held?.found,
+    sheet: sheet?.found, parts, faults, faultsAt: byLine(faults), others, before,
     beforeParts: before?.found ? checkSheet(before.found, setup?.found, null) : [],
   };
 }
 
 // ---- The parts of the page
 
-// What the sheet calls itself, which nothing checks.
+// The kind that the sheet calls itself, which nothing checks.
 function kindShown({ sheet, own }) {
   if (sheet) return say('calls', { kind: say(sheet.kind) });
   const key = { none: 'noSheet', refused: 'isRefused' }[own.verdict] ?? 'isUnreadable';
   return make('strong', { class: 'kind' }, say(key));
 }
 
-// What the first line of a sheet says, and no check looks at. Its digit is left out: in a published sheet it stands for no desk.
+// The first line of a sheet, which no check looks at. Its digit is left out: in a published sheet it is not the number of a desk.
 const neverChecked = ({ kind, commands }) => make('p', { class: 'hint' }, say('neverChecked', { kind: say(kind), commands }));
 
 function showLanguages() {
@@ -56,26 +56,27 @@ function showLanguages() {
   };
   find('languages').setAttribute('aria-label', say('language'));
   put('languages', LANGUAGES.map((one) => (
-    button(one === 'de' ? 'Deutsch' : 'English', () => choose(one), { lang: one, 'aria-pressed': one === language }))));
+    button(one === 'de' ? 'Deutsch' : 'English', () => choose(one), { lang: one, 'aria-pressed': `${one === language}` }))));
 }
 
-// The bar, the sentences under it, and lines to sign, which only a sheet has that is right.
-function showBar(answer, proved = { state: 'absent' }) {
+// The bar, the sentences under it, the ticks, and lines to sign if the sheet is right.
+function showBar(answer, proved) {
   const { colour, heading, caveat, sentence, ticks } = barOf({ ...answer, proved });
   const isEmpty = answer.own.verdict === 'none';
   const [other] = answer.others;
-  Object.assign(document.body.dataset, { state: isEmpty && other ? 'unsure' : colour, own: answer.own.verdict });
+  const unread = isEmpty && other && words('otherFile', { file: say(other.name), line: other.fault.line });
+  Object.assign(document.body.dataset, { state: unread ? 'unsure' : colour, own: answer.own.verdict });
   put('kind', kindShown(answer));
-  const unread = other && words('otherFile', { file: say(other.name), line: other.fault.line });
-  const said = isEmpty && other ? unread : heading;
-  const sign = isEmpty ? (other ? 'unsure' : 'answer') : colour;
-  put('verdict', said && [signFor(sign), ' ', reasonOf(said)]);
+  const said = unread || heading;
+  put('verdict', said && [signFor(unread ? 'unsure' : isEmpty ? 'answer' : colour), ' ', reasonOf(said)]);
   put('why', caveat && make('p', { class: 'caveat' }, reasonOf(caveat)),
     sentence.map((one) => make('p', {}, one.fault ? faultShown(answer.sheet, one.fault) : reasonOf(one))),
     answer.sheet && neverChecked(answer.sheet));
-  nameParliament(answer, colour);
+  find('parliament-title')?.replaceChildren(parliamentHeading(answer, colour));
   showElection(answer);
-  showTicks(ticks);
+  find('ticks').setAttribute('aria-label', say('ticks'));
+  put('ticks', ticks.map((tick) => make('li', { class: tick.state }, make('p', {}, signFor(tick.state), ' ', reasonOf(tick.heading)),
+    tick.sentence.map((one) => make('p', { class: 'hint' }, reasonOf(one))))));
   const blank = (key) => make('p', {}, make('span', { class: 'rule' }), make('span', {}, say(key)));
   put('signatures', colour === 'right' && ['place', 'date', 'signature', 'signature'].map(blank));
 }
@@ -86,7 +87,7 @@ function faultShown(sheet, fault) {
   return [place, whose(sheet, fault.line), reasonOf(fault)];
 }
 
-// Which election this is: of the sheet, or where there is none of the set-up, with the votes so far.
+// The election: that of the sheet, or of the set-up if there is only that, with the votes so far.
 function showElection({ sheet, count }) {
   const found = sheet ? { ...sheet, seats: sheet.house.seats, votes: allVotes(sheet) } : count && { ...count, seats: count.house };
   const namesOfAll = (rows) => namesShown(rows.map(({ name }) => name));
@@ -94,20 +95,6 @@ function showElection({ sheet, count }) {
   put('election', found && pieces('electionNames', {
     constituencies: namesOfAll(found.constituencies), groups: namesOfAll(found.groups), votes: found.votes }));
   put('add', (files.sheet || count) && button(say('add'), () => find('pick').click()));
-}
-
-// What was checked of it.
-function showTicks(ticks) {
-  const one = ({ state, heading, sentence }) => make('li', { class: state }, make('p', {}, signFor(state), ' ', reasonOf(heading)),
-    sentence.map((it) => make('p', { class: 'hint' }, reasonOf(it))));
-  find('ticks').setAttribute('aria-label', say('ticks'));
-  put('ticks', ticks.map(one));
-}
-
-// What stands first: where there is nothing to show, what this page is, and the choice of files; else what was found.
-function arrange({ count }) {
-  const order = files.sheet || count ? ['shown', 'files', 'opinion'] : ['opinion', 'files', 'shown'];
-  find('overview').after(...order.map(find));
 }
 
 // How large the sheet is, so that it is printed on one page. Long names take several lines, in the legend first.
@@ -118,7 +105,7 @@ function paperSize({ groups, constituencies }) {
   return most > 10 ? 'large' : 'small';
 }
 
-// Where this script itself fails, no verdict stays, and none of other files; nor does one come later.
+// If this script itself fails, no verdict stays, not even one on earlier files, and none comes later.
 function unlessItFails(work) {
   try {
     work();
@@ -132,17 +119,18 @@ function unlessItFails(work) {
   }
 }
 
-// What can have the focus. All that is shown is made anew, so it is found again by its part and its place in that.
-const FOCUSED = 'a, button, input, textarea, summary, [tabindex]';
+// The elements that can have the focus. All of them are made anew, so one is found again by its part and its place in that.
+/** @type {(part: Element) => any[]} */
+const focusable = (part) => [part, ...part.querySelectorAll('a, button, input, textarea, summary, [tabindex]')];
+
 function placeOfFocus() {
   const part = document.activeElement.closest('[id]');
-  return part && { id: part.id, place: [part, ...part.querySelectorAll(FOCUSED)].indexOf(document.activeElement) };
+  return part && { id: part.id, place: focusable(part).indexOf(document.activeElement) };
 }
 
 function focusAt({ id, place }) {
   const part = find(id);
-  /** @type {HTMLElement | null | undefined} */
-  const found = part && [part, .../** @type {NodeListOf<HTMLElement>} */ (part.querySelectorAll(FOCUSED))][place];
+  const found = part && focusable(part)[place];
   found?.focus();
   const closed = found?.closest('details');
   if (closed && found !== document.activeElement) within(closed, 'summary').focus();
@@ -160,27 +148,28 @@ function showAll() {
   document.documentElement.lang = language;
   const answer = judge();
   document.title = say('title');
-  put('opinion', sentence('opinion', 'command', code('zhcount check')));
+  put('opinion', pieces('opinion', { command: code('zhcount check') }));
   find('detail').hidden = true;
   put('detail');
   askProved(() => unlessItFails(() => {
     showBar(answer, proved);
     showProved(answer);
   }));
-  arrange(answer);
-  showBar(answer, proved);
+  const { sheet, count } = answer;
+  // First comes what was found, or if there is nothing yet, what this page is, and the choice of files.
+  find('overview').after(...(files.sheet || count ? ['shown', 'files', 'opinion'] : ['opinion', 'files', 'shown']).map(find));
   showLanguages();
   showFiles();
   showPapers(answer);
-  const { sheet, count } = answer;
-  put('shown', sheet && parliament(answer), soFar(answer), (sheet || count) && colourTable((sheet ?? count).groups), problems(answer),
+  const found = sheet ?? count;
+  put('shown', sheet && parliament(answer), soFar(answer), found && colourTable(found.groups), problems(answer),
     sheet && seatsTable(answer), summary(answer), make('div', { id: 'proved-place' }), changes(answer));
-  nameParliament(answer, document.body.dataset.state);
+  showBar(answer, proved);
   showProved(answer);
   showWhichPage();
   showColours();
   hintAtScrolling();
-  document.body.dataset.size = sheet || count ? paperSize(sheet ?? count) : 'small';
+  document.body.dataset.size = found ? paperSize(found) : 'small';
   document.body.dataset.shown = `${Math.ceil(performance.now() - begun)}`;
 }
 

@@ -2,7 +2,7 @@
 
 const COLOURS = 8;
 
-// A seat has a thin edge, so that light colours stand out; every second shape is a ring, with an edge on either side.
+// A seat has a thin edge, so that light colours can be seen; every second shape is a ring, with an edge on either side.
 function seatShape(number, x, y, radius) {
   const index = number - 1;
   const look = lookOf(number);
@@ -26,7 +26,7 @@ function disputed(x, y, r, isSure) {
   return draw('path', { d: stroke + other, class: 'disputed', 'stroke-width': r * 0.25 });
 }
 
-// The places of so many seats in a half circle of radius 1 about (0, 0), from left to right, and the radius of a seat.
+// The places of this many seats in a half circle of radius 1 about (0, 0), from left to right, and the radius of a seat.
 function places(count) {
   let rows = 1;
   while (3.5 * rows * (rows - 1) < count && rows * 4 < count + 4) rows += 1;
@@ -37,7 +37,7 @@ function places(count) {
   const counts = shares.map(Math.floor);
   const order = shares.map((share, i) => [share - counts[i], i]).sort((a, b) => b[0] - a[0]);
   const left = count - counts.reduce((all, one) => all + one, 0);
-  for (let i = 0; i < left; i += 1) counts[order[i % rows][1]] += 1;
+  order.slice(0, left).forEach(([, i]) => { counts[i] += 1; });
   let seat = rows === 1 ? 0.25 : ((1 - inner) / (rows - 1)) * 0.46;
   const found = [];
   radii.forEach((radius, i) => {
@@ -52,51 +52,38 @@ function places(count) {
   return { found, seat };
 }
 
-// Of a sheet that is wrong, the seats that follow are named where they are others.
+// If a sheet is wrong, the seats that follow are named where they differ.
 function parliament({ sheet, own }) {
   const follow = own.follow?.groups;
-  const isOther = own.follow && otherSeats(sheet, own.follow).length > 0;
   const rightly = (group) => follow?.[group.number - 1] ?? (follow ? 0n : group.seats);
   const total = Number(sum(sheet.groups.map(({ seats }) => seats)));
   const { found, seat } = places(total);
   const scale = 100;
   const edge = seat * scale + 1;
+  const blocks = sheet.groups.map((group) => draw('g', {}, draw('title', {}, `${group.number} ${isolatedText(group.name)}: ${group.seats}`),
+    found.splice(0, Number(group.seats)).map(({ x, y }, i) => [
+      seatShape(group.number, x * scale, y * scale, seat * scale),
+      i >= rightly(group) && disputed(x * scale, y * scale, seat * scale, !own.follow.isOther)])));
   const arc = draw('svg', {
     viewBox: `${-scale - edge} ${-scale - edge} ${2 * (scale + edge)} ${scale + 2 * edge}`,
     role: 'img', 'aria-label': `${say('parliament')}: ${say('parliamentSays', { total })}`, class: 'arc',
-  });
-  let next = 0;
-  for (const group of sheet.groups) {
-    const block = draw('g', {}, draw('title', {}, `${group.number} ${isolatedText(group.name)}: ${group.seats}`));
-    for (let i = 0n; i < group.seats; i += 1n) {
-      const { x, y } = found[next];
-      next += 1;
-      block.append(...seatShape(group.number, x * scale, y * scale, seat * scale).filter(Boolean));
-      if (i >= rightly(group)) block.append(disputed(x * scale, y * scale, seat * scale, !own.follow.isOther));
-    }
-    arc.append(block);
-  }
-  arc.append(draw('text', { x: 0, y: -2, class: 'middle', 'font-size': 22 }, `${total}`));
+  }, blocks, draw('text', { x: 0, y: -2, class: 'middle', 'font-size': 22 }, `${total}`));
   const rows = sheet.groups.map((group) => make('li', { class: group.seats === 0n ? 'none' : null },
     swatch(group.number), narrowName(group.name), make('span', { class: 'count' }, `${group.seats}`),
     rightly(group) !== group.seats ? make('span', { class: `said ${own.kind.colour}` },
       say(own.follow.says.key, { ...own.follow.says.values, should: rightly(group) })) : null));
   return make('section', { id: 'parliament' },
     make('h2', { id: 'parliament-title' }),
-    make('div', { class: 'halves' }, arc, make('ol', { class: isOther ? 'legend other' : 'legend' }, rows)));
+    make('div', { class: 'halves' }, arc, make('ol', { class: own.follow?.differs ? 'legend other' : 'legend' }, rows)));
 }
 
-// The heading of the picture: what the sheet is said to be, and what is to be said against it.
+// The heading of the picture: what the sheet calls itself, and what is against it.
 function parliamentHeading({ sheet, own, rows, returns }, colour) {
   if (colour === 'right') return say('parliamentCalled', { kind: say(sheet.kind) });
   if (colour === 'mismatch') return say('asItSaysMismatch');
-  if (own.follow && otherSeats(sheet, own.follow).length > 0) return say('asItSaysWrong');
+  if (own.follow?.differs) return say('asItSaysWrong');
   if (colour === 'wrong') return say('asItSays');
   return rows.is === 'compared' && returns.rows < returns.possible ? say('parliamentSoFar', returns) : say('asItSaysUnsure');
-}
-
-function nameParliament(answer, colour) {
-  find('parliament-title')?.replaceChildren(parliamentHeading(answer, colour));
 }
 
 const swatch = (number) => draw('svg', { viewBox: '-11 -11 22 22', class: 'swatch', 'aria-hidden': 'true' },

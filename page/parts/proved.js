@@ -3,65 +3,25 @@
 /** @type {string} */
 const MODULE = '@MODULE@';
 const VERSION = '@VERSION@';
-// It takes milliseconds. After so many of them it is given up.
+// The check takes milliseconds. After this many of them the page gives it up.
 const PATIENCE = 60000;
 const GIVEN = ['setup', 'sheet', 'held'];
-
-Object.assign(WORDS, {
-  provedCheck: ['The proved check', 'Die bewiesene Prüfung'],
-  provedNone: ['this browser has no WebAssembly', 'dieser Browser hat kein WebAssembly'],
-  provedModule: ['its module is missing from this page', 'ihr Modul fehlt auf dieser Seite'],
-  provedMemory: ['there was too little memory', 'der Speicher reichte nicht'],
-  provedTime: ['it took longer than {seconds} seconds', 'sie dauerte länger als {seconds} Sekunden'],
-  provedCut: ['the returns are too long', 'die Meldungen sind zu lang'],
-  provedUnreadable: ['the browser can’t read a file', 'der Browser kann eine Datei nicht lesen'],
-  provedRuns: ['It is at work.', 'Sie läuft.'],
-  provedAlone: ['It did not run: it needs the set-up.', 'Sie ist nicht gelaufen: Sie braucht die Grunddaten.'],
-  provedNot: ['It did not run: {why}.', 'Sie ist nicht gelaufen: {why}.'],
-  provedRight: ['It says that the sheet is right. Word for word, as {command} says on the same files:',
-    'Sie sagt, das Resultatblatt sei richtig. Wort für Wort, was {command} über dieselben Dateien sagt:'],
-  provedWrong: ['It says that the sheet is wrong. Word for word, as {command} says on the same files:',
-    'Sie sagt, das Resultatblatt sei falsch. Wort für Wort, was {command} über dieselben Dateien sagt:'],
-  provedAnswer: ['It checks sheets alone, and to it this answer is none. “sheet wrong” in its last line below says only that, and '
-    + 'nothing of any seats. Word for word, as {command} says on the same files:',
-  'Sie prüft nur Resultatblätter, und diese Antwort ist für sie keines. Nur das sagt «sheet wrong» auf ihrer letzten Zeile hier, und '
-    + 'nichts über Sitze. Wort für Wort, was {command} über dieselben Dateien sagt:'],
-  provedUnread: ['It finds no whole sheet in this file. “sheet wrong” in its last line below says only that, and nothing of the seats '
-    + 'that were published. Word for word, as {command} says on the same files:',
-  'Sie findet in dieser Datei kein ganzes Resultatblatt. Nur das sagt «sheet wrong» auf ihrer letzten Zeile hier, und nichts über die '
-    + 'veröffentlichten Sitze. Wort für Wort, was {command} über dieselben Dateien sagt:'],
-  provedMismatch: ['It says that the sheet does not match the other files: that is what “sheet wrong” in its last line below means '
-    + 'here. Word for word, as {command} says on the same files:',
-  'Sie sagt, dass das Resultatblatt nicht zu den anderen Dateien passt: Das heisst hier «sheet wrong» auf ihrer letzten Zeile. Wort '
-    + 'für Wort, was {command} über dieselben Dateien sagt:'],
-  provedRefused: ['It did not run. It reports a fault of the set-up or of the returns, as {command} does:',
-    'Sie ist nicht gelaufen. Sie meldet einen Fehler der Grunddaten oder der Meldungen, wie {command}:'],
-  provedLong: ['Shown as far as here; all of it is in the file that is saved.', 'Gezeigt bis hier; die gespeicherte Datei hat alles.'],
-  provedSave: ['Save the verdict', 'Prüfergebnis speichern'],
-  whichPage: ['Is this the real page of zhcount {version}? A forged one would say the same. Compute the SHA-256 of this file, and compare '
-    + 'it with one that you did not get together with this page, for example from a newspaper or from the README of zhcount:',
-  'Ist das die echte Seite von zhcount {version}? Eine gefälschte würde dasselbe sagen. Berechnen Sie die Prüfsumme (SHA-256) dieser '
-    + 'Datei, und vergleichen Sie sie mit einer, die Sie nicht zusammen mit dieser Seite bekommen haben, zum Beispiel aus einer Zeitung '
-    + 'oder aus dem README von zhcount:'],
-});
 
 // Its state is one of none (no sheet), alone (no set-up), runs, right, wrong, refused (by the set-up or the rows) and failed, with a
 // reason for the last two; `text` are the bytes that it wrote.
 const proved = { state: 'none', why: '', text: null, given: [], run: 0, tell: () => {} };
 
-function moduleBytes() {
-  return Uint8Array.from(atob(MODULE), (c) => c.charCodeAt(0));
-}
+const moduleBytes = () => Uint8Array.from(atob(MODULE), (c) => c.charCodeAt(0));
 
 // Ends the worker that is at work, if there is one.
 let endWorker = () => {};
 
-// The answer of a worker, which is ended with it, as is the one before. A browser that refuses the worker runs the check in the page.
+// The answer of a worker, which ends with it, as does the one before. If the browser refuses the worker, the check runs in the page.
 function asked(texts) {
   endWorker();
   return new Promise((answered, failed) => {
     const bytes = moduleBytes();
-    const inPage = () => WebAssembly.compile(bytes).then((module) => provedCheck(module, texts)).then(answered, failed);
+    const inPage = () => answered(WebAssembly.compile(bytes).then((module) => provedCheck(module, texts)));
     const address = URL.createObjectURL(new Blob([WORKER], { type: 'text/javascript' }));
     let worker;
     try {
@@ -70,12 +30,12 @@ function asked(texts) {
       inPage();
       return;
     }
-    const end = () => {
+    const late = setTimeout(() => { endWorker(); failed(new Error('time')); }, PATIENCE);
+    endWorker = () => {
+      clearTimeout(late);
       worker.terminate();
       URL.revokeObjectURL(address);
     };
-    const late = setTimeout(() => { end(); failed(new Error('time')); }, PATIENCE);
-    endWorker = () => { clearTimeout(late); end(); };
     worker.onmessage = ({ data }) => {
       endWorker();
       if (data.answer) answered(data.answer);
@@ -89,12 +49,10 @@ function asked(texts) {
   });
 }
 
-// What an answer comes to.
+// The state after an answer.
 function provedBy({ status, text }) {
-  const said = new TextDecoder().decode(text);
-  if (status === 0) return { state: 'right', text };
-  if (status === 1) return { state: 'wrong', text };
-  if (status === 2 || status === 3) return { state: 'refused', text, why: said.trim().replace('\n', ', ') };
+  if (status < 2) return { state: status === 0 ? 'right' : 'wrong', text };
+  if (status < 4) return { state: 'refused', text, why: new TextDecoder().decode(text).trim().replace('\n', ', ') };
   return { state: 'failed', why: say('provedMemory') };
 }
 
@@ -103,12 +61,12 @@ function whyFailed(fault) {
   return /memory/iu.test(fault.message) ? `${say('provedMemory')} (${fault.message})` : fault.message;
 }
 
-// What is known of it before it is asked; null where it is to be asked.
+// The state that is known without asking; null if the check is to be asked.
 /** @param {any[]} given */
 function withoutAsking([setup, sheet, held]) {
   if (!sheet) return { state: 'none' };
   if (!setup) return { state: 'alone' };
-  // Of a sheet and a set-up the program reads no more either.
+  // The program does not read more of a sheet or a set-up either.
   if (held?.bytes.length >= MOST_READ) return { state: 'failed', why: say('provedCut') };
   if ([setup, sheet, held].some((file) => file?.fault?.reason === 'unreadable')) return { state: 'failed', why: say('provedUnreadable') };
   if (typeof WebAssembly === 'undefined') return { state: 'failed', why: say('provedNone') };
@@ -116,11 +74,11 @@ function withoutAsking([setup, sheet, held]) {
   return null;
 }
 
-// Asks it on the files that are open, unless they are those that it was asked on; `tell` is called when it has answered.
+// Asks the check about the files that are open, unless it was asked about them already; `tell` is called when it has answered.
 function askProved(tell) {
   proved.tell = tell;
   const given = GIVEN.map((kind) => files[kind]);
-  if (proved.given.length > 0 && given.every((file, i) => file === proved.given[i])) return;
+  if (given.every((file, i) => file === proved.given[i])) return;
   const run = proved.run + 1;
   const become = (state) => {
     if (run !== proved.run) return;
@@ -145,32 +103,27 @@ function save(name, bytes) {
   setTimeout(() => URL.revokeObjectURL(address), 1000);
 }
 
-// So many characters of a verdict are shown.
+// The page shows this many characters of a verdict.
 const SHOWN = 20000;
 
-// Its verdict, word for word, with signs for what would not be seen.
-function provedText({ text }) {
+// The verdict, word for word, with signs for characters that are not seen.
+function provedText(text) {
   const whole = new TextDecoder().decode(text);
   return [make('pre', { tabindex: 0 }, make('bdi', {}, whole.slice(0, SHOWN).split('\n').map((line) => shown(line, SHOWN)).join('\n'))),
     whole.length > SHOWN ? make('p', { class: 'hint' }, say('provedLong')) : null,
     button(say('provedSave'), () => save('verdict', text), { id: 'save' })];
 }
 
-// What is shown of it, where there is a sheet.
-function provedSection({ state, why, text }, own) {
-  if (state === 'none') return null;
+// Shows what there is of it, if there is a sheet.
+function showProved({ own }) {
+  const { state, why, text } = proved;
   const wrongs = { answer: 'provedAnswer', unread: 'provedUnread', mismatch: 'provedMismatch' };
   const wrong = own.verdict === 'refused' ? 'answer' : own.kind?.isUnread ? 'unread' : own.kind?.colour;
   const keys = { right: 'provedRight', wrong: 'provedWrong', refused: 'provedRefused', runs: 'provedRuns', alone: 'provedAlone' };
   const key = (state === 'wrong' && wrongs[wrong]) || keys[state];
-  const said = text ? sentence(key, 'command', code('zhcount check')) : say(key ?? 'provedNot', { why });
-  return make('section', { id: 'proved', class: 'screen' }, make('h2', {}, say('provedCheck')), make('p', {}, said),
-    text ? provedText(proved) : null);
-}
-
-// Shows it, or what there is of it.
-function showProved({ own }) {
-  put('proved-place', provedSection(proved, own));
+  const said = pieces(key ?? 'provedNot', { why, command: code('zhcount check') });
+  put('proved-place', state !== 'none' && make('section', { id: 'proved', class: 'screen' }, make('h2', {}, say('provedCheck')),
+    make('p', {}, said), text && provedText(text)));
 }
 
 // How the sum of a file is computed.

@@ -12,8 +12,7 @@ function whose(sheet, line) {
   const has = (rows) => rows.find((one) => one.line === line);
   const list = sheet && has(sheet.lists);
   const found = list ? [constituencyFor(sheet, list), groupFor(sheet, list)] : [sheet && (has(sheet.constituencies) ?? has(sheet.groups))];
-  const names = found.filter(Boolean).flatMap(({ name }, i) => [i > 0 ? ', ' : '', isolated(name)]);
-  return names.length > 0 ? [names, ': '] : [];
+  return found[0] ? [namesShown(found.map(({ name }) => name)), ': '] : [];
 }
 
 // A line that does not hold, with its text and the reasons. Line 0 is the whole file.
@@ -23,25 +22,26 @@ function faultBox(title, { line, text }, reasons) {
     reasons.map((fault) => make('p', { class: 'reason' }, reasonOf(fault))));
 }
 
-// All that does not hold, or is not understood.
+// Everything that does not hold, or is not understood.
 function problems({ sheet, own, faults, others }) {
   const boxes = [...byLine(faults)].map(([line, found]) => faultBox([whose(sheet, line), say('lineIs', { line })], found[0], found));
   const more = others.flatMap(({ name, fault }) => [
     faultBox(say('faultAt', { file: say(name), line: fault.line }), fault, [fault]), make('p', { class: 'hint' }, say('notAny'))]);
   if (files.held && !files.setup) more.push(make('p', { class: 'hint' }, say('heldNeeds')));
   if (boxes.length + more.length === 0) return null;
-  const isAlone = own.follow && !own.follow.isOther && otherSeats(sheet, own.follow).length === 0;
+  const isAlone = own.follow && !own.follow.isOther && !own.follow.differs;
   const count = faults.length > 0 && !own.kind?.isUnread ? make('p', { id: 'count' },
     say('failing', { count: faults.length }), isAlone ? make('strong', {}, ` ${say('noChange')}`) : null) : null;
   return make('section', { id: 'problems' }, faults.length + others.length > 0 ? make('h2', {}, say('wrongHere')) : null, count,
     boxes.length > 0 ? make('div', { class: 'faults', role: 'region', 'aria-label': say('wrongHere'), tabindex: 0 }, boxes) : null, more);
 }
 
-function partRow(part, held) {
+function partRow(part, returns) {
   const bad = part.faults.length;
   const { count, faults } = part;
   const result = bad > 0 ? say('fails', { count: bad, all: count, line: faults[0].line }) : say('holds', { count });
-  const rows = part.name === 'votes' && held ? ` (${say(held.rows < held.possible ? 'compared' : 'comparedAll', held)})` : '';
+  const rows = part.name === 'votes' && returns
+    ? ` (${say(returns.rows < returns.possible ? 'compared' : 'comparedAll', returns)})` : '';
   return make('tr', { class: bad > 0 ? 'bad' : null },
     make('th', { scope: 'row' }, mark(bad === 0), ' ', say(part.name),
       make('span', { class: 'screen hint' }, ` ${say(`${part.name}Says`)}`)),
@@ -53,9 +53,8 @@ const allMissing = (missing) => (missing.length === 0 ? null : make('details', {
   make('summary', {}, say('missingAll')), make('ul', {}, missing.map((one) => make('li', {}, missingShown(one))))));
 
 // The parts of the check.
-function summary({ sheet, parts, held }) {
-  if (!sheet) return null;
-  const rows = parts.map((part) => partRow(part, held));
-  return make('section', { id: 'checks' }, make('h2', { id: 'checks-title' }, say('checks')),
-    tableOf({ id: 'parts', 'aria-labelledby': 'checks-title' }, [say('part'), say('result')], rows), held && allMissing(held.missing));
+function summary({ sheet, parts, returns }) {
+  return sheet && make('section', { id: 'checks' }, make('h2', { id: 'checks-title' }, say('checks')),
+    tableOf({ id: 'parts', 'aria-labelledby': 'checks-title' }, [say('part'), say('result')], parts.map((part) => partRow(part, returns))),
+    returns && allMissing(returns.missing));
 }

@@ -1,6 +1,6 @@
 // ---- Reading a set-up (FORMATS, "Set-up text")
 
-// Of TOML the part that FORMATS shows. Any other line is a fault of that line.
+// This reads the part of TOML that FORMATS shows. Any other line is a fault.
 const KEYS = {
   top: { version: 'number', house: 'number', canton_quorum: 'number' },
   constituency: { name: 'name', persons: 'number' },
@@ -8,93 +8,31 @@ const KEYS = {
   group: { name: 'name', stands: 'numbers' },
 };
 const MOST = { constituency: 32, municipality: 512, group: 32 };
-const KEY = /[a-z_]+/uy;
-const NUMBER = /0|[1-9][0-9]{0,11}/uy;
-const NAME = /"[^"\\\u0000-\u001f\u007f]*(?:\\["\\][^"\\\u0000-\u001f\u007f]*)*"/uy;
+// Only spaces and tabs are blanks: in what follows a space is any number of them.
+const patternOf = (text) => new RegExp(text.replaceAll(' ', '[ \\t]*'), 'su');
+const NUMBER = '(?:0|[1-9][0-9]{0,11})';
+const NAME = '[^"\\\\\\u0000-\\u001f\\u007f]*(?:\\\\["\\\\][^"\\\\\\u0000-\\u001f\\u007f]*)*';
+const VALUE = `(?:(?<digits>${NUMBER})|"(?<name>${NAME})"|\\[(?<list>[^\\]]*)\\])`;
+// A line. However long it is, each part of it is gone through a few times at most.
+const LINE = patternOf(`^ (?:(?:\\[\\[ (?<table>${Object.keys(MOST).join('|')}) \\]\\]|(?<key>[a-z_]+) = ${VALUE}) )?(?:#.*)?$`);
+const ITEM = patternOf(`^ ${NUMBER} $`);
+const LAST_COMMA = patternOf(', $');
 
-// Goes along a line once, from left to right, and never back by more than a word.
-class Along {
-  constructor(line) {
-    this.line = line;
-    this.at = 0;
-  }
-
-  // Only spaces and tabs are blanks.
-  blanks() { while (this.line[this.at] === ' ' || this.line[this.at] === '\t') this.at += 1; }
-
-  takes(text) {
-    this.blanks();
-    if (!this.line.startsWith(text, this.at)) return false;
-    this.at += text.length;
-    return true;
-  }
-
-  word(pattern) {
-    this.blanks();
-    pattern.lastIndex = this.at;
-    const word = pattern.exec(this.line)?.[0] ?? '';
-    this.at += word.length;
-    return word;
-  }
-
-  // A text in quotation marks; null where there is none, or one with other escapes than those of the mark and of \.
-  quoted() {
-    const name = this.word(NAME);
-    return name === '' ? null : name.slice(1, -1).replace(/\\(.)/gu, '$1');
-  }
-
-  // Numbers in brackets, one at least; null where there are none.
-  numbers() {
-    const found = [];
-    if (!this.takes('[')) return null;
-    do {
-      const word = this.word(NUMBER);
-      if (word === '') return found.length > 0 && this.takes(']') ? found : null;
-      found.push(Number(word));
-    } while (this.takes(','));
-    return this.takes(']') ? found : null;
-  }
-
-  // Nothing more comes, or a comment.
-  ends() { return this.takes('#') || this.at === this.line.length; }
-}
-
-// What stands on a line: the head of a table, a value under its key, or nothing. Null where it is not understood.
-function standing(line) {
-  const along = new Along(line);
-  if (along.ends()) return {};
-  if (along.takes('[[')) {
-    const table = along.word(KEY);
-    return Object.hasOwn(MOST, table) && along.takes(']]') && along.ends() ? { table } : null;
-  }
-  const key = along.word(KEY);
-  if (key === '' || !along.takes('=')) return null;
-  const number = along.word(NUMBER);
-  const name = number === '' ? along.quoted() : null;
-  const [kind, value] = number !== '' ? ['number', Number(number)] : name !== null ? ['name', name] : ['numbers', along.numbers()];
-  return value !== null && along.ends() ? { key, kind, value } : null;
+// Reads a line: the head of a table, or a key with its value and the kind of that, or nothing.
+function understood(number, line) {
+  if (line.includes('\r')) throw new Fault(number, line, 'loneReturn');
+  const found = LINE.exec(line)?.groups;
+  const items = found?.list?.replace(LAST_COMMA, '').split(',');
+  if (!found || items?.some((item) => !ITEM.test(item))) throw new Fault(number, line, 'notUnderstood');
+  if (/[\u0000-\u0008\u000b-\u001f\u007f]/u.test(line)) throw new Fault(number, line, 'inComment');
+  const { table, key, digits, name } = found;
+  if (table || !key) return { table };
+  if (digits) return { key, kind: 'number', value: Number(digits) };
+  return items ? { key, kind: 'numbers', value: items.map(Number) } : { key, kind: 'name', value: name.replace(/\\(.)/gu, '$1') };
 }
 
 // The lines of a text with their numbers, without LF and CR LF.
-function* linesOf(text) {
-  let number = 0;
-  for (let start = 0; start < text.length;) {
-    number += 1;
-    const found = text.indexOf('\n', start);
-    const end = found < 0 ? text.length : found;
-    yield [number, text.slice(start, found > start && text[end - 1] === '\r' ? end - 1 : end)];
-    start = end + 1;
-  }
-}
-
-// What stands on a line, or its fault.
-function understood(number, line) {
-  if (line.includes('\r')) throw new Fault(number, line, 'loneReturn');
-  const found = standing(line);
-  if (!found) throw new Fault(number, line, 'notUnderstood');
-  if (/[\u0000-\u0008\u000b-\u001f\u007f]/u.test(line)) throw new Fault(number, line, 'inComment');
-  return found;
-}
+const linesOf = (text) => text.split(/\r?\n/u).map((line, i) => [i + 1, line]);
 
 // The tables of the text: the top one, and those of each kind in order. Each has its line, and its values with theirs.
 function tablesOf(text) {
@@ -116,48 +54,39 @@ function tablesOf(text) {
   return { top, tables };
 }
 
-const bytesIn = (text) => new TextEncoder().encode(text).length;
-const isName = (name) => bytesIn(name) >= 1 && bytesIn(name) <= 40 && !/[\u0000-\u001f\u007f]/u.test(name)
-  && !name.startsWith(' ') && !name.endsWith(' ');
+const isName = (name) => /^(?! )[^\u0000-\u001f\u007f]+(?<! )$/u.test(name) && new TextEncoder().encode(name).length <= 40;
 
 function inRange({ value, line, text }, least, most) {
   if (value < least || value > most) throw new Fault(line, text, 'range', { least, most });
 }
 
 function needed(table, keys) {
-  for (const key of keys) {
-    if (!table.values[key]) throw new Fault(table.line, table.text, 'missing', { key });
-  }
+  const key = keys.find((one) => !table.values[one]);
+  if (key) throw new Fault(table.line, table.text, 'missing', { key });
 }
 
-// The names of tables of one kind, each once.
-function namesOf(tables) {
-  const names = new Set();
-  for (const { values: { name } } of tables) {
-    if (!isName(name.value)) throw new Fault(name.line, name.text, 'name');
-    if (names.has(name.value)) throw new Fault(name.line, name.text, 'nameTwice');
-    names.add(name.value);
-  }
+// The names of tables of one kind differ.
+function checkNames(names) {
+  names.forEach(({ value, line, text }, i) => {
+    if (!isName(value)) throw new Fault(line, text, 'name');
+    if (names.findIndex((one) => one.value === value) < i) throw new Fault(line, text, 'nameTwice');
+  });
 }
 
 function readSetup(text) {
   const { top, tables } = tablesOf(text);
   needed(top, ['version', 'house']);
-  inRange(top.values.version, 1, 2);
-  inRange(top.values.house, 1, 400);
-  const quorum = top.values.canton_quorum;
-  if (quorum && top.values.version.value !== 2) throw new Fault(quorum.line, quorum.text, 'unknownKey', { key: 'canton_quorum' });
+  const { version, house, canton_quorum: quorum } = top.values;
+  inRange(version, 1, 2);
+  inRange(house, 1, 400);
+  if (quorum && version.value !== 2) throw new Fault(quorum.line, quorum.text, 'unknownKey', { key: 'canton_quorum' });
   if (quorum) inRange(quorum, 1, 49);
-  const of = (kind) => {
-    const found = tables[kind];
+  const [constituencies, municipalities, groups] = Object.entries(tables).map(([kind, found]) => {
     found.forEach((table) => needed(table, Object.keys(KEYS[kind])));
     if (found.length === 0) throw new Fault(1, '', 'missing', { key: kind });
-    namesOf(found);
-    return found.map((table) => table.values);
-  };
-  const constituencies = of('constituency');
-  const municipalities = of('municipality');
-  const groups = of('group');
+    checkNames(found.map(({ values }) => values.name));
+    return found.map(({ values }) => values);
+  });
   constituencies.forEach(({ persons }) => inRange(persons, 1, 10000000));
   municipalities.forEach(({ constituency }) => inRange(constituency, 1, constituencies.length));
   for (const { stands } of groups) {
@@ -165,10 +94,9 @@ function readSetup(text) {
     if (new Set(stands.value).size < stands.value.length) throw new Fault(stands.line, stands.text, 'standsTwice');
   }
   return {
-    house: BigInt(top.values.house.value), quorum: quorum ? BigInt(quorum.value) : null,
+    house: BigInt(house.value), quorum: quorum ? BigInt(quorum.value) : null,
     constituencies: constituencies.map(({ name, persons }) => ({ name: name.value, persons: BigInt(persons.value) })),
-    municipalities: municipalities.map(({ constituency }) => constituency.value),
-    municipalityNames: municipalities.map(({ name }) => name.value),
+    municipalities: municipalities.map(({ name, constituency }) => ({ name: name.value, constituency: constituency.value })),
     groups: groups.map(({ name, stands }) => ({ name: name.value, stands: new Set(stands.value) })),
   };
 }

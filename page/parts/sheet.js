@@ -1,6 +1,6 @@
 // ---- Reading a sheet (FORMATS, "The sheet")
 
-// What is wrong with a line of a file: its number from 1, its text, and the reason, a key of WORDS with its values.
+// A line of a file that is wrong: its number from 1, its text, and the reason, a key of WORDS with its values.
 class Fault extends Error {
   constructor(line, text, reason, values = {}) {
     super(reason);
@@ -8,80 +8,63 @@ class Fault extends Error {
   }
 }
 
-// The bytes as UTF-8, a mark at the beginning among them; null where they are not. Those of a part may end within a character.
-function textOf(bytes, isPart = false) {
-  try {
-    return new TextDecoder('utf-8', { fatal: true, ignoreBOM: true }).decode(bytes, { stream: isPart });
-  } catch {
-    return null;
-  }
-}
-
-// The text of a file. Bytes that are not UTF-8 are a fault of their line, which is found by halves.
+// The text of a file, with a byte order mark if it begins with one. The first line that is not UTF-8 is a fault.
 function decoded(bytes) {
-  const text = textOf(bytes);
-  if (text !== null) return text;
-  let good = 0;
-  for (let bad = bytes.length + 1; bad - good > 1;) {
-    const middle = (good + bad) >> 1;
-    if (textOf(bytes.subarray(0, middle), true) === null) bad = middle;
-    else good = middle;
+  const decoder = new TextDecoder('utf-8', { fatal: true, ignoreBOM: true });
+  const lines = [];
+  for (let start = 0, end = 0; end >= 0; start = end + 1) {
+    end = bytes.indexOf(10, start);
+    const line = bytes.subarray(start, end < 0 ? bytes.length : end);
+    try {
+      lines.push(decoder.decode(line));
+    } catch {
+      throw new Fault(lines.length + 1, new TextDecoder().decode(line), 'notText');
+    }
   }
-  const start = bytes.subarray(0, good).lastIndexOf(10) + 1;
-  const end = bytes.indexOf(10, good);
-  const line = bytes.subarray(0, start).reduce((count, byte) => count + Number(byte === 10), 1);
-  throw new Fault(line, new TextDecoder().decode(bytes.subarray(start, end < 0 ? bytes.length : end)), 'notText');
+  return lines.join('\n');
 }
 
-// How the words in braces are written, and read; all others are numbers. A word with a stroke may be a stroke alone.
+// How the words in braces are written, and how they are read; all others are numbers. A word with a stroke can be a stroke alone.
 const NUMERAL = '0|[1-9][0-9]{0,19}';
 const WRITTEN = { desk: '[1-8]', kind: 'provisional|final', takesPart: 'yes|no', divisor: '(?:0|[1-9][0-9]{0,19})\\.[0-9]{6}', name: '.+' };
 const READ = {
   kind: String, name: String, number: Number, constituency: Number, group: Number, takesPart: (word) => word === 'yes',
   divisor: (word) => BigInt(word.replace('.', '')),
 };
-const formOf = (text) => new RegExp(`^${text.replace(/\{(\w+)(-?)\}/gu, (_, name, dash) => (
-  `(?<${name}>${dash && '-|'}${WRITTEN[name] ?? NUMERAL})`))}$`, 'su');
+// The form of a line: how it is read, and how FORMATS shows it.
+const formOf = (shown, text) => Object.assign(new RegExp(`^${text.replace(/\{(\w+)(-?)\}/gu, (_, name, dash) => (
+  `(?<${name}>${dash && '-|'}${WRITTEN[name] ?? NUMERAL})`))}$`, 'su'), { shown });
 const FORMS = {
-  head: formOf('{desk} sheet {kind} {commands}'),
-  house: formOf('house {seats}'),
-  seatsKey: formOf('seats key {a}/{b}'),
-  upperKey: formOf('upper key {a}/{b}'),
-  quorum: formOf('quorum canton {perMille}'),
-  constituency: formOf('constituency {number} persons {persons} seats {seats} votes {votes} divisor {divisor} {name}'),
-  group: formOf('group {number} quorum {takesPart} voters {voters-} seats {seats} divisor {divisor-} {name}'),
-  list: formOf('list {constituency} {group} votes {votes} voters {voters-} seats {seats}'),
-  end: formOf('end'),
-};
-const SHOWN_FORMS = {
-  head: 'D sheet provisional K', house: 'house H', seatsKey: 'seats key A/B', upperKey: 'upper key A/B',
-  constituency: 'constituency d persons P seats R votes T divisor X NAME',
-  group: 'group g quorum Q voters V seats U divisor X NAME',
-  list: 'list d g votes V voters W seats S', end: 'end',
+  head: formOf('D sheet provisional K', '{desk} sheet {kind} {commands}'),
+  house: formOf('house H', 'house {seats}'),
+  seatsKey: formOf('seats key A/B', 'seats key {a}/{b}'),
+  upperKey: formOf('upper key A/B', 'upper key {a}/{b}'),
+  quorum: formOf('quorum canton q', 'quorum canton {perMille}'),
+  constituency: formOf('constituency d persons P seats R votes T divisor X NAME',
+    'constituency {number} persons {persons} seats {seats} votes {votes} divisor {divisor} {name}'),
+  group: formOf('group g quorum Q voters V seats U divisor X NAME',
+    'group {number} quorum {takesPart} voters {voters-} seats {seats} divisor {divisor-} {name}'),
+  list: formOf('list d g votes V voters W seats S', 'list {constituency} {group} votes {votes} voters {voters-} seats {seats}'),
+  end: formOf('end', 'end'),
 };
 
-// More lines say why a search was exhausted, or what the lot decides. They are no sheet.
+// The office's answer in place of a sheet (FORMATS, "Replies"). More lines say why a search was exhausted, or what the lot decides. They
+// are not a sheet.
 const REFUSAL = new RegExp('^(?:(?:[1-8]|zhcount:) )?refused ([a-z]+(?:[ -][a-z]+)?)((?: [1-9][0-9]{0,9}){0,2})'
   + '(?:\\r?\\n(?!(?:[1-8] )?sheet ).{0,200})*$', 'u');
 const LONGEST_REFUSAL = 20000;
+// Refusals that name a constituency first, and then perhaps a group.
+const NAMING = ['refused noseat', 'refused novotes', 'refused tied lower'];
 
-// The office's answer in place of a sheet (FORMATS, "Replies"), where the text is one that is about seats: its name and numbers.
-function refusalIn(text) {
+// The refusal that a text is, if it is one about seats: a key of WORDS, and its numbers, with the names of the set-up.
+function refusalIn(text, setup) {
   const match = text.length > LONGEST_REFUSAL ? null : REFUSAL.exec(text);
   const reason = match && `refused ${match[1]}`;
   if (!match || !Object.hasOwn(WORDS, reason)) return null;
   const [first, second] = match[2].trim().split(' ');
-  return { reason, values: { first, second } };
-}
-
-// Refusals that name a constituency first, and then perhaps a group: their numbers with the names of the set-up.
-const NAMING = ['refused noseat', 'refused novotes', 'refused tied lower'];
-
-function namedBy(setup, { reason, values: { first, second } }) {
   const withName = (rows, number) => (rows?.[number - 1] ? { number, name: rows[number - 1].name } : number);
-  const isNaming = setup && NAMING.includes(reason);
-  const values = isNaming ? { first: withName(setup.constituencies, first), second: withName(setup.groups, second) } : { first, second };
-  return { reason, values };
+  const names = NAMING.includes(reason) ? setup : null;
+  return { reason, values: { first: withName(names?.constituencies, first), second: withName(names?.groups, second) } };
 }
 
 // Goes through the lines of a sheet, one after the other.
@@ -103,10 +86,10 @@ class Lines {
 
   has(form) { return this.at < this.lines.length && FORMS[form].test(this.text); }
 
-  // What this line says, which has to be of this form: its words by their names, null for a stroke.
+  // The words of this line, which must have this form, by their names; null for a stroke.
   take(form) {
-    // A line that begins as another one is measured by that one's form.
-    const wanted = { form: SHOWN_FORMS[['constituency', 'group', 'list'].find((word) => this.text.startsWith(`${word} `)) ?? form] };
+    // The form that a line is compared with is the one that it begins as.
+    const wanted = { form: FORMS[['constituency', 'group', 'list'].find((word) => this.text.startsWith(`${word} `)) ?? form].shown };
     if (this.number === 1 && this.text.startsWith('\ufeff')) throw this.fault('mark');
     if (this.at >= this.lines.length) throw this.fault(this.rest === '' ? 'cut' : 'cutWithin', wanted);
     if (this.text.endsWith('\r')) throw this.fault('carriageReturn');
@@ -151,7 +134,7 @@ function listsIn(lines, constituencies, groups) {
   return found;
 }
 
-// The sheet that this text is. It is thrown what is wrong if it has not the form of one.
+// The sheet that this text is. A line without the right form is thrown as a fault.
 function readSheet(text) {
   const lines = new Lines(text);
   const head = lines.take('head');

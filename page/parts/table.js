@@ -52,31 +52,25 @@ function listCell(sheet, [constituency, group], of, follow) {
 // One of the table's buttons can be reached with the tabulator, and the others from there with the arrows.
 function arrows(table) {
   const grid = [...table.rows].map((row) => [...row.cells].map((cell) => cell.querySelector('button')));
-  const first = grid[1][1] ?? grid[1][0];
-  first.tabIndex = 0;
-  const go = (from, to) => {
-    if (!to) return;
-    table.querySelectorAll('button[tabindex="0"]').forEach((button) => { button.tabIndex = -1; });
-    to.tabIndex = 0;
-    to.focus();
+  (grid[1][1] ?? grid[1][0]).tabIndex = 0;
+  const go = (button) => {
+    table.querySelectorAll('button[tabindex="0"]').forEach((other) => { other.tabIndex = -1; });
+    button.tabIndex = 0;
+    button.focus();
   };
-  table.addEventListener('click', ({ target }) => { const button = target.closest('button'); if (button) go(null, button); });
+  table.addEventListener('click', ({ target }) => { if (target.closest('button')) go(target.closest('button')); });
   table.addEventListener('keydown', (event) => {
     const button = event.target.closest('button');
-    const row = grid.findIndex((cells) => cells.includes(button));
-    if (row < 0) return;
-    const column = grid[row].indexOf(button);
+    if (!button) return;
+    const row = grid.find((cells) => cells.includes(button));
+    const [column, above] = [row.indexOf(button), grid.indexOf(row)];
     const inColumn = grid.map((cells) => cells[column]);
-    const found = {
-      ArrowRight: () => grid[row].slice(column + 1).find(Boolean),
-      ArrowLeft: () => grid[row].slice(0, column).reverse().find(Boolean),
-      ArrowDown: () => inColumn.slice(row + 1).find(Boolean),
-      ArrowUp: () => inColumn.slice(0, row).reverse().find(Boolean),
-      Home: () => grid[row].find(Boolean),
-      End: () => [...grid[row]].reverse().find(Boolean),
-    }[event.key]?.();
-    if (!found) return;
+    const to = {
+      ArrowRight: row.slice(column + 1), ArrowLeft: row.slice(0, column).reverse(), Home: row, End: [...row].reverse(),
+      ArrowDown: inColumn.slice(above + 1), ArrowUp: inColumn.slice(0, above).reverse(),
+    }[event.key]?.find(Boolean);
+    if (!to) return;
     event.preventDefault();
-    go(button, found);
+    go(to);
   });
 }

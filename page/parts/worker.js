@@ -1,4 +1,4 @@
-// ---- What the worker of the proved check does. This function is also its text, so it uses nothing of the page.
+// ---- The worker of the proved check. This function is also its text, so it uses nothing of the page.
 
 // Checks a sheet by a fresh instance of the compiled module. The texts are bytes, and `held` is null where there are no rows. The status
 // is 0 (right) or 1 (wrong), with the verdict; 2 (no set-up) or 3 (no rows of this set-up), with a report of the fault; or 4 (memory).
