@@ -21,6 +21,11 @@ RULES = [
          [(SPEC, END, "abbrev pub planted : ℕ\nplanted = 1\n")], [r"no clause reaches zh_disk\.specs\.Planted\.planted"]),
     Rule("names", "no two crates define one name", shape.names,
          [(SPEC, END, "pub record Office : Type 0 where\n")], ["Office is defined in zh_disk and zh_office"]),
+    Rule("parameters", "a definition has at most six parameters", shape.parameters,
+         [(SPEC, END, "abbrev pub planted : {A : Type 0} → ((ℕ → ℕ) → ℕ) → (a b c : ℕ) → (d : ℕ) × (d ≡ d) → A → A → A\n")],
+         ["Planted.antt: planted has 7 parameters"]),
+    Rule("characters", "a line of a definition or of the code has at most 140 characters", shape.characters,
+         [(SPEC, END, f"-- {'≡' * 138}\n")], [r"Planted\.antt:1 has 141 characters"]),
     Rule("unread", "no crate has destructors or macros of its own, or unsafe code", shape.unread,
          [(SOURCE, END, "impl<D: File + Drop>\n    Drop for HeldFile<D> {\n}\nuse std::prelude::Drop as Let;\n"
            "impl<D: File> Drop /* a file */ for HeldFile<D> {\n}\nimpl<const N: usize = { 1 }> Drop for Held<N> {\n}\n"
