@@ -4,18 +4,20 @@ night."""
 import contextlib
 import os
 import random
+import re
 import signal
 import time
 
 import pytest
 
+from counting import Count, random_line
 from quiet import QuietRoom
 from room import running, until
-from witnessed import BusyDesks, Witnessed
+from witnessed import Witnessed
 
 pytestmark = [pytest.mark.long, pytest.mark.xdist_group("chance")]
 KILLS, SEED = int(os.environ.get("KILLS", "15")), int(os.environ.get("SEED", "86"))
-LINES = 100  # that are typed before each kill
+LINES = 100  # that are typed after each kill
 PAUSES = (0.01, 0.05, 0.1, 0.2, 0.4, 0.8)  # seconds between two kills, at most
 
 
@@ -28,6 +30,11 @@ def serves(room):
     return room.serves()
 
 
+def words(answer):
+    """An answer, of a sheet the first words, as a desk shows it or as the log has it."""
+    return re.search(r"sheet \w+ \d+|.*", answer)[0]
+
+
 @pytest.mark.parametrize("kind", [QuietRoom, Witnessed], ids=["alone", "with a witness"])
 def test_kills(kind):
     """kills of whatever works for the desks, mostly some while after the office serves"""
@@ -36,20 +43,25 @@ def test_kills(kind):
         return chance.choice(victims)()
 
     with running(kind()) as room:
-        chance, busy = random.Random(SEED), BusyDesks(room, SEED)
+        chance, count = random.Random(SEED), Count()
+        desks, lines = {it: room.desk(it) for it in range(1, 9)}, {it: [] for it in range(1, 9)}
         victims = [lambda: room.office.process.pid, lambda: room.child("run"), *([room.witness] if kind is Witnessed else [])]
         for _ in range(KILLS):
-            busy.enter(LINES)
             if chance.random() < 0.7:
                 until(lambda: f"the office serves: {room.office.said()}", lambda: serves(room))
             time.sleep(chance.choice(PAUSES) * chance.random())
             with contextlib.suppress(ProcessLookupError):
                 os.kill(until("a process works for the desks", victim), signal.SIGKILL)
-        until(lambda: f"the office serves: {room.office.said()}", lambda: serves(room))
-        for number, desk in busy.desks.items():
+            for _ in range(LINES):
+                number, line = chance.randint(1, 8), random_line(chance, count)
+                count.answer(f"{number} {line}")  # roughly, as lines of other desks can come before it
+                lines[number].append(line)
+                desks[number].write(f"{line}\n")
+        for number, desk in desks.items():
+            shown = [words(desk.answer(line, lambda: serves(room))) for line in lines[number]]
+            assert shown == [words(answer) for _, answer in room.of_desk(number)], f"what desk {number} was shown"
             assert desk.end() == 0, f"the end of desk {number}: {desk.said()}"
-            assert desk.out == [answer for _, answer in room.of_desk(number)], f"what desk {number} was shown"
         if kind is Witnessed:
             room.has_all()
-        room.check(busy.lines)
+        room.check(lines)
         assert room.rebuilt() == room.zhcount("export"), "the export of the disk made anew"
