@@ -58,7 +58,7 @@ def test_beside_an_office(room):
     """while an office runs, replay, rebuild and another office name it, and it goes on; after its end they work, and it can start again"""
     assert room.ask(1, "return 1 1 1 525").out == ["stored 1"]
     for status, *words in ((1, "--replay", room.folder), (1, "--rebuild", room.folder, room.path / "new.disk"),
-                           (3, room.setup, room.disk, room.folder)):
+                           (3, room.setup, room.disk, room.folder), (3, "--take", room.setup, room.disk, room.folder)):
         said = room.zhcount_office(*words, status=status)
         who = f"another office, witness or replay has {room.folder}: zhcount-office, process {room.office.process.pid} of"
         assert who in said, f"{words[0]}: {said}"

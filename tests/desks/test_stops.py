@@ -68,10 +68,11 @@ class Night:
             until(lambda: f"desk {number} is let in: {desk.said()}",
                   lambda: self.look_after_office() or desk.is_let_in() or desk.has_ended())
             noted = dict(self.room.of_desk(number))
-        if line not in noted:
+        answer = noted.get(line)
+        if answer is None:
             desk.write(f"{line}\n")
-            noted[line] = desk.answer(line, self.look_after_office)
-        return None if noted[line] == HAS_ENDED else re.search(r"sheet \w+ \d+|.*", noted[line])[0]
+            answer = desk.answer(line, self.look_after_office)
+        return None if answer == HAS_ENDED else re.search(r"sheet \w+ \d+|.*", answer)[0]
 
     def stage(self):
         """What the office does."""

@@ -7,6 +7,7 @@ import signal
 
 import pytest
 
+from places import PROGRAM
 from processes import Desk
 from quiet import QuietRoom
 from room import SCRIPTS, running, stand_still, until
@@ -197,10 +198,15 @@ def test_interrupted(room, begun):
     assert room.noted() == lines_of(TABLE), "what is sent"
 
 
-def test_office_is_stopped(room, begun):
-    """kill -9 of office and run: the desk goes on with the next office, and the table is in once"""
-    desk, run_process = begun
-    os.kill(run_process, signal.SIGKILL)
+@pytest.mark.parametrize("line, answer", [("open", "held 0"), ("row 1 2 1 300", "held 2"), ("commit", "stored 1")])
+def test_office_is_stopped(new_room, line, answer):
+    """kill -9 of an office that waits for the answer to a line: the desk goes on with the next office, and the table is in once"""
+    room = new_room
+    room.edits_answers(f"/^3 {answer}$/d")
+    room.start()
+    desk = started(room, TABLE)
+    until(f"{line} is noted", lambda: room.noted()[-1:] == [line])
+    room.environment["ZHCOUNT"] = str(PROGRAM)
     room.restart()
     assert (desk.wait(), desk.out) == (0, ["stored 1"]), f"the end of the desk: {desk.said()}"
     room.check({3: lines_of(TABLE)})
