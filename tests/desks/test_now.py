@@ -2,7 +2,11 @@
 import shutil
 import stat
 
-from now import CLOSINGS, NEVER, RETURNS, UNCONFIRMED, QuickRoom, compare, link_of
+import pytest
+
+from canton import Canton, Chance
+from logs import Written
+from now import CLOSINGS, NEVER, RETURNS, UNCONFIRMED, QuickRoom, compare, compare_folder, link_of, model
 from places import REHEARSAL, TOP
 from processes import until
 from room import running
@@ -69,6 +73,21 @@ def test_the_end():
         compare(room, RETURNS)
 
 
+@pytest.mark.long
+def test_a_hundred_thousand_lines(new_room):
+    """a hundred thousand lines are all in lines.csv, and desks are answered all the time"""
+    log = Written(new_room.folder)
+    log.add("setup", new_room.setup.read_text())
+    log.add("start", "{}")
+    for number in range(100_000):
+        for kind, text in ("line", f"x {number}"), ("answer", "refused syntax"):
+            log.add(kind, text, number % 8 + 1, number // 8 + 1)
+    log.put()
+    new_room.start()
+    assert new_room.ask(1, RETURNS[0], "show 1 1").out == ["stored 1", "shows 1 525"]
+    until("all lines are there", lambda: text_of(new_room, "lines.csv").count("\n") == 100_003)
+
+
 def test_unconfirmed():
     """a return that one desk alone, or no desk, has entered is unconfirmed until another desk sends the same, also over a stop"""
     with QuickRoom(setup=REHEARSAL.read_text().replace('name = "N"', 'name = "N, \\"n\\""')) as room:
@@ -76,9 +95,10 @@ def test_unconfirmed():
         room.zhcount_office("--take", room.setup, room.disk, room.folder)
         room.start()
         room.ask(4, "open", "row 2 1 1 240", "row 2 2 1 330")
-        room.stops_at(room.desk(4), "commit", is_stored=True).kill()
-        room.start()
-        for desk, *lines in [(1, "return 1 1 1 525", "return 1 1 1 525", "return 1 2 1 300", "return 1 3 1 175", "withdraw 2 3 1"),
+        for desk, line in [(4, "commit"), (1, "return 1 1 1 525")]:
+            room.stops_at(room.desk(desk), line, is_stored=True).kill()
+            room.start()
+        for desk, *lines in [(1, "return 1 1 1 525", "return 1 2 1 300", "return 1 3 1 175", "withdraw 2 3 1"),
                              (2, "return 1 2 1 300", "return 1 3 1 157"), (3, "return 3 1 1 90"), (5, "open", "row 2 1 1 240", "commit"),
                              (6, "open", "row 2 2 1 330"), (7, "open", "row 2 2 1 330", "drop")]:
             room.ask(desk, *lines)
@@ -88,6 +108,8 @@ def test_unconfirmed():
         for desk, line in [(2, "return 1 1 1 525"), (3, "return 3 2 1 60"), (4, "withdraw 2 3 1")]:
             room.ask(desk, line)
         shows_text(room, "unconfirmed", UNCONFIRMED + rows[1] + rows[2])
+        assert room.ask(6, "row 1 1 2 530", "commit").out == ["held 2", "stored 7"], "one row of the batch is new"
+        shows_text(room, "unconfirmed", UNCONFIRMED + '1,1,2,530,6,"N, ""n""",A\n' + rows[1])
 
 
 # What can be published
@@ -105,6 +127,15 @@ def test_sheet_is_final_where_a_desk_asked_for_it(new_room):
     compare(new_room, stored, line="final")
     desk.talk("reopen 1 -> stored 13", "close 1 -> stored 14")
     compare(new_room, [*stored, "reopen 1", "close 1"])
+
+
+def test_a_cantons_bundle():
+    """a bundle has the tables and the sheet of a canton too, where some lists stand in some constituencies alone"""
+    canton = Canton(Chance(86))
+    lines = [f"return {municipality} {group} 1 {votes}" for (municipality, group), votes in canton.votes.items() if group % 2]
+    with running(QuickRoom(setup=canton.setup())) as room:
+        room.ask(1, *lines)
+        compare_folder(room.shows(len(lines)) / "publish", model(room, lines, "sheet")[1])
 
 
 def test_page_and_modes(new_room):

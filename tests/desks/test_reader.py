@@ -28,9 +28,10 @@ WIDEST = "\n".join(["version = 1", "house = 400", *(f'[[constituency]]\nname = "
 
 
 def said(*words):
-    """How a program ends, the first two words of its fault, if it reports one in a line, and what it writes."""
+    """How a program ends, the first two words of its fault, and what it writes. The script's faults have one line."""
     ran = subprocess.run(words, stdin=subprocess.DEVNULL, capture_output=True)
-    return ran.returncode, re.sub(rb"zhcount(?:-read)?: (\w+ ?\w*).*\n\Z", rb"\1", ran.stderr).decode(), ran.stdout
+    fault = re.fullmatch(rb"zhcount(-read)?: (\w+ ?\w*).*\n(?(1)|(?s:.*))", ran.stderr)
+    return ran.returncode, (fault[2] if fault else ran.stderr).decode(), ran.stdout
 
 
 def compare(title, disk, setup=SETUP):

@@ -64,6 +64,18 @@ def test_passed_over(night):
     assert "the same: " in night.replay(), "a replay"
 
 
+def test_programs_that_fail(night):
+    """a run that ends before its last answer is a fault, as is a program that fails or can't be started"""
+    night.begin(["1 return 1 1 1 525", "2 return 2 1 1 240"])
+    two_lines = f"for line in 1 2; do IFS= read -r line; printf '%s\\n' \"$line\"; done | '{PROGRAM}' \"$@\""
+    for task, does, wanted in [("run", f"{two_lines}; exit", "zhcount run has ended"), ("run", "echo ill >&2; exit 1", "ill"),
+                               *((it, "echo ill >&2; exit 1", f"zhcount {it}: ill") for it in ("format", "export", "status"))]:
+        night.stands_in(f"[ $1 != {task} ] || {{ {does}; }}")
+        night.both_refuse(wanted)
+    night.environment["ZHCOUNT"] = "/none"
+    night.both_refuse("/none can't be started")
+
+
 def test_nothing_to_run(night):
     """a folder that is missing or has no log is a fault, as is a log without a start or one that was changed"""
     night.both_refuse(f"{night.folder} has no night.db")

@@ -20,13 +20,15 @@
 /* Asks before a call at a path; whether the call fails. If nobody listens any more the process goes on. Signals wait: their handlers can
  * write, and so would ask too. (sendto is not among the calls below.) */
 static int asked(const char *call, const char *path) {
+    const char *watcher = getenv("WATCHER"), *as = getenv("WATCHED_AS");
     struct sockaddr_un place = {.sun_family = AF_UNIX};
     unsigned char fault = 0;
     char text[3 * PATH_MAX];
     sigset_t all, others;
-    int before = errno, fd = socket(AF_UNIX, SOCK_STREAM | SOCK_CLOEXEC, 0);
-    snprintf(place.sun_path, sizeof place.sun_path, "%s", getenv("WATCHER"));
-    snprintf(text, sizeof text, "%d\n%s\n%s\n%s\n", getpid(), getenv("WATCHED_AS"), call, path);
+    int before = errno, fd = watcher && as ? socket(AF_UNIX, SOCK_STREAM | SOCK_CLOEXEC, 0) : -1;
+    if (fd < 0) return 0;
+    snprintf(place.sun_path, sizeof place.sun_path, "%s", watcher);
+    snprintf(text, sizeof text, "%d\n%s\n%s\n%s\n", getpid(), as, call, path);
     sigfillset(&all);
     sigprocmask(SIG_BLOCK, &all, &others);
     if (connect(fd, (struct sockaddr *)&place, sizeof place) == 0 && sendto(fd, text, strlen(text), MSG_NOSIGNAL, NULL, 0) > 0)
