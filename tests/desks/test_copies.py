@@ -36,7 +36,7 @@ def test_every_ten_seconds():
 
 
 def test_lines_meanwhile():
-    """what comes before the child reads, or later, is in none of its files; it leaves the processor to others"""
+    """lines that come after the copy are in none of the files of its child, which leaves the processor to others"""
     with QuickRoom(every=NEVER, priority=19) as room:
         room.held.touch()
         waits = f"    while os.path.exists({str(room.held)!r}):\n        time.sleep(0.02)\n"
@@ -46,14 +46,14 @@ def test_lines_meanwhile():
         os.setpriority(os.PRIO_PROCESS, room.working(), 0)
         numbers = range(1, 201)  # more lines than the office writes at once
         shown = room.ask(1, *(f"return 1 1 {it} 525" for it in numbers)).out
-        assert shown == [f"stored {it}" for it in numbers], "the answers meanwhile"
+        assert shown == [f"stored {it}" for it in numbers], "the answers"
         assert names_of_now(room) == ["now-0"], "`now` is not there before all is"
         room.goes_on()
         compare(room, [], shown=0)
 
 
 def test_copies_between_lines(new_room):
-    """the disk is copied only where no line is in the air, or waits for the witness: what no desk was shown is in no copy"""
+    """the disk is copied only while no line waits for its answer or for the witness: a copy has nothing that no desk was shown"""
     room, copy, script = new_room, new_room.path / "copy", str(new_room.scripts / "zhcount-witness")
     room.scripts = patient_scripts(room.scripts)
     room.start("--witness-required", "--witness", f"{script} {copy}")

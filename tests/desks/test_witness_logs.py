@@ -51,7 +51,7 @@ def test_another_log(new_room, when, is_longer):
 
 
 def test_nothing_is_shown_that_it_has_not_written():
-    """an answer is shown once the witness has written it: not while that is about to do so"""
+    """an answer is shown once the witness has written it, and not while it is about to write"""
     stopped, armed = [], []
 
     def before(call):
@@ -96,7 +96,7 @@ def test_witness_that_lacks_much():
 
 
 def test_waits_for_the_one_before(new_room):
-    """a witness waits for the witness that has its folder, and that is said; one that hears nothing for 20 seconds ends"""
+    """a witness waits for the one that has its folder, and the office says so; one that hears nothing for 20 seconds ends"""
     first = new_room.process(Process, new_room.script("zhcount-witness", new_room.copy))
     first.write(f"{json.dumps(GREETING)}\n")
     until("it is ready", lambda: first.out)
