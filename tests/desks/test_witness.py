@@ -53,8 +53,8 @@ def test_goes_on_without(room):
 
 
 def test_waits_for_it():
-    """while a witness that is required is silent or away, the office shows no answer, also at its end, and says so. The next start shows it,
-    and nothing before the witness has that start too"""
+    """while a witness that is required is silent or away, the office shows no answer, also at its end, and says so. The next start shows
+    it, and nothing before the witness has that start too"""
     with running(Witnessed("--witness-required", measures=["PATIENCE"], seconds=20)) as room:
         desk = room.desk(1).talk("return 1 1 1 525 -> stored 1")
         room.signal(signal.SIGSTOP)
