@@ -111,6 +111,7 @@ def test_slow_witness():
         stays("it stays away", lambda: room.said_of_it().startswith(IS_AWAY), 15)  # for two answers of it
         room.delay.write_text("0")
         room.says_of_it(IS_THERE)
+        room.has_all()
         room.check()
 
 

@@ -4,8 +4,7 @@ import signal
 import sys
 
 from logs import events
-from now import command_of
-from processes import until
+from processes import command_of, until
 from quiet import patient_scripts, quiet_scripts
 from room import SCRIPTS, Room
 

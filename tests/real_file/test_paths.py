@@ -128,6 +128,10 @@ def test_no_permission_for_a_file_or_its_folder(room: Room) -> None:
     room.ends("list --of groups", 1, "setup file\ndenied.setup: no permission", before=before, setup="denied.setup")
 
 
+def test_a_record_without_an_end_is_refused(disk: Room) -> None:
+    disk.ends("load --disk d --csv /dev/zero", 1, out="refused csv\n")
+
+
 @pytest.mark.parametrize("task, fault", [
     ("load --disk d --csv kinds/none.csv", f"csv file\nkinds/none.csv: {GONE}"),
     ("load --disk d --csv kinds", "csv file\nkinds: is a folder"),
