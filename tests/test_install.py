@@ -111,7 +111,8 @@ def test_the_archive_has_what_is_installed_with_its_sums(unpacked):
     assert ran("sha256sum", "--quiet", "-c", "SHA256SUMS", cwd=unpacked).stdout == ""
     summed = [line[66:] for line in (unpacked / "SHA256SUMS").read_text().splitlines()]
     assert sorted(["SHA256SUMS", *summed]) == files_below(unpacked)
-    assert [*lost_links(unpacked)] == []
+    assert [*lost_links(unpacked)] == [] and "\n/usr/local/share/doc/zhcount\n" in man(unpacked, "zhcount")
+    assert (unpacked / "share/examples/zhcount/zhcount-office.service").read_text().count("/usr/local/bin/zhcount") == 2
     assert ran("sh", "-c", "umask 077; make -s dist").returncode == 0
     assert filecmp.cmp(ARCHIVE, f"{unpacked}.tar.gz", shallow=False)
 

@@ -57,7 +57,7 @@ def test_night(seed, tmp_path, program):
     with open(tmp_path / "early.votes", newline="") as file:
         early = [(int(it["commands"]), int(it["votes"])) for it in csv.DictReader(file)]
     first, second = early[0][0], int(re.search(r"(\d+) commands;", status["evening"])[1])
-    at_copy = {}  # what the office has after as many commands as a copy: its status, and the votes of each group
+    at_copy = {}  # by the number of commands of a copy: the status of the office, and the votes of each group
     for commands in compared(office, tmp_path, "evening"):
         if commands in (first, second) and commands not in at_copy:
             at_copy[commands] = office.status(), [sum(it or 0 for it in votes) for votes in zip(*votes_in(office))]

@@ -4,7 +4,7 @@ HOUSE = 180
 LISTS = ["Ahorn", "Birke", "Buche", "Eiche", "Erle", "Esche", "Föhre", "Hasel", "Linde", "Tanne", "Ulme"]
 STRENGTHS = [262, 186, 143, 118, 96, 71, 49, 33, 22, 13, 7]  # per mille of the votes
 STANDS_IN = {"Linde": 9, "Tanne": 5, "Ulme": 3}  # the first constituencies; the other lists stand everywhere
-STRONGHOLDS = {("Hasel", 12): 2, ("Tanne", 5): 6}  # where a small list is so many times as strong
+STRONGHOLDS = {("Hasel", 12): 2, ("Tanne", 5): 6}  # where a small list is this many times as strong
 
 CONSTITUENCIES = ["Fernsee", "Hochmoor", "Steinbruch", "Breitried", "Nebelbach", "Dunkelwald", "Weitfeld", "Rosshang",
                   "Silbergrund", "Krummbach", "Lindenmatt", "Sonnenrain", "Tiefenau", "Wolkenstein", "Adlerfluh",

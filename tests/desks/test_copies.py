@@ -10,9 +10,9 @@ import signal
 import pytest
 
 from logs import events
-from now import NEVER, RETURNS, QuickRoom, command_of, compare, link_of, names_of_now
+from now import NEVER, RETURNS, QuickRoom, compare, link_of, names_of_now
 from places import PROGRAM
-from processes import stand_still, stays, until
+from processes import command_of, stand_still, stays, until
 from quiet import patient_scripts
 from room import Room, running
 from watch import Stop, WatchedRoom
@@ -25,18 +25,20 @@ def test_every_ten_seconds():
     """a command that comes soon after a copy is shown ten seconds after it, without another line"""
     with Room() as room:
         room.edit_script("zhcount_now.py", "^PRIORITY = .*", "PRIORITY = 0")  # a busy machine would let the child wait long
+        desk = room.desk(1)
+        desk.write("".join(f"{it}\n" for it in RETURNS[:2]))
         room.start()
         until("the first", lambda: link_of(room) == "now-0")
         first = (room.folder / "now/disk").stat().st_mtime
-        assert room.ask(1, *RETURNS[:2]).out == ["stored 1", "stored 2"]
         until("the next", lambda: names_of_now(room) == ["now", "now-2"])
         seconds = (room.folder / "now/disk").stat().st_mtime - first
         assert 9 < seconds < 60, f"after {seconds:.1f} seconds"
+        assert desk.out == ["stored 1", "stored 2"]
         stays("nothing is copied where nothing has changed", lambda: names_of_now(room) == ["now", "now-2"])
 
 
 def test_lines_meanwhile():
-    """what comes before the child reads, or later, is in none of its files; it leaves the processor to others"""
+    """lines that come after the copy are in none of the files of its child, which leaves the processor to others"""
     with QuickRoom(every=NEVER, priority=19) as room:
         room.held.touch()
         waits = f"    while os.path.exists({str(room.held)!r}):\n        time.sleep(0.02)\n"
@@ -46,14 +48,14 @@ def test_lines_meanwhile():
         os.setpriority(os.PRIO_PROCESS, room.working(), 0)
         numbers = range(1, 201)  # more lines than the office writes at once
         shown = room.ask(1, *(f"return 1 1 {it} 525" for it in numbers)).out
-        assert shown == [f"stored {it}" for it in numbers], "the answers meanwhile"
+        assert shown == [f"stored {it}" for it in numbers], "the answers"
         assert names_of_now(room) == ["now-0"], "`now` is not there before all is"
         room.goes_on()
         compare(room, [], shown=0)
 
 
 def test_copies_between_lines(new_room):
-    """the disk is copied only where no line is in the air, or waits for the witness: what no desk was shown is in no copy"""
+    """the disk is copied only while no line waits for its answer or for the witness: a copy has nothing that no desk was shown"""
     room, copy, script = new_room, new_room.path / "copy", str(new_room.scripts / "zhcount-witness")
     room.scripts = patient_scripts(room.scripts)
     room.start("--witness-required", "--witness", f"{script} {copy}")
@@ -64,9 +66,11 @@ def test_copies_between_lines(new_room):
         until("its child has ended", lambda: not room.child())
         pid = until(word, lambda it=word: room.child(it))
         stand_still(pid)
-        room.note(desk, RETURNS[number])
-        stays("nothing is copied", lambda it=number: not room.child() and names_of_now(room) == ["now", f"now-{it}"], 3)
-        os.kill(pid, signal.SIGCONT)
+        try:
+            room.note(desk, RETURNS[number])
+            stays("nothing is copied", lambda it=number: not room.child() and names_of_now(room) == ["now", f"now-{it}"], 3)
+        finally:
+            os.kill(pid, signal.SIGCONT)
         assert desk.answer() == f"stored {number + 1}"
     room.shows(3)
 
@@ -85,6 +89,17 @@ def test_copy_of_another_disk(new_room):
     os.replace(new_room.other_disk(RETURNS[1]), new_room.disk)
     new_room.goes_on()
     new_room.ends(3, "is no longer the file")
+
+
+def test_failed_disk(new_room):
+    """after `device` nothing is copied"""
+    new_room.edits_answers("s/stored 2/refused device/")
+    new_room.start()
+    desk = new_room.desk(1).talk(f"{RETURNS[0]} -> stored 1")
+    new_room.shows(1)
+    desk.write(f"{RETURNS[1]}\n")
+    new_room.ends(3)
+    assert names_of_now(new_room) == ["now", "now-1"], "what `now` shows"
 
 
 # The child

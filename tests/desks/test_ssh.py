@@ -13,8 +13,7 @@ import time
 
 import pytest
 
-from now import command_of
-from processes import SECONDS, Desk, until
+from processes import SECONDS, Desk, command_of, until
 from room import Room, running
 from witnessed import Witnessed
 
@@ -106,7 +105,7 @@ def test_a_key_is_a_desk(room):
 
 
 def test_table(room):
-    """a key for tables alone takes one from standard input; where its connection is cut before the end nothing is entered"""
+    """a key for tables takes one from standard input, and nothing else; if the connection is cut before the end nothing is entered"""
     room.adds_key("table", *room.script("zhcount-desk", 3, room.folder, "--csv", "-"))
     cut, text = room.desk("table"), "\ufeffGemeinde;Liste;Fassung;Stimmen\r\n1;1;1;525\r\n1;2;1;300\r\n"
     cut.write(text)
@@ -122,14 +121,14 @@ def test_table(room):
 
 
 def reaching(room, other, name="witness"):
-    """The room, whose office reaches its witness by ssh, in another room."""
+    """Lets the office of a room reach its witness by ssh, with a key of another room. The room."""
     other.adds_key(name, room.command)
     room.options[1] = shlex.join(other.words(name, "-T"))
     return room
 
 
 def test_machine_is_lost(new_room):
-    """whatever desks were shown holds at a witness by ssh, whenever the office's machine was lost; the night goes on there"""
+    """whenever the office's machine is lost, the witness, reached by ssh, has all that desks were shown, and the night goes on there"""
     lines = {it: [f"return {1 + it % 3} {1 + it // 3} {number} 525" for number in range(1, 26)] for it in range(1, 9)}
 
     def night(loss):
@@ -144,8 +143,8 @@ def test_machine_is_lost(new_room):
             room.start()
             for it, desk in desks.items():
                 assert room.of_desk(it)[:len(desk.out)] == list(zip(lines[it], desk.out)), f"what desk {it} was shown"
-            assert room.ask(1, "show 3 3").out, "the night goes on"
-            room.check()
+                room.ask(it, *lines[it][len(room.of_desk(it)):])
+            room.check(lines)
             return sum(len(it.out) for it in desks.values())
 
     with concurrent.futures.ThreadPoolExecutor(6) as pool:
@@ -165,8 +164,8 @@ def burns(room):
 
 @pytest.mark.xdist_group("times")
 def test_network_hangs(new_room):
-    """where the way to the witness hangs the answer is shown after five seconds, with the news that the witness is away, and the next ones
-    at once; a new connection has the folder once the witness before it has heard nothing for a while"""
+    """if the connection to the witness hangs, an answer is shown after five seconds, with the news that the witness is away, and the next
+    ones at once; a new connection gets the folder once the witness before it has heard nothing for a while"""
     with running(reaching(Witnessed(measures=["PATIENCE", "SILENCE"]), new_room)) as room:
         desk, is_there = room.desk(1).talk("return 1 1 1 525 -> stored 1"), "the witness has been connected since"
         room.says_of_it(is_there)

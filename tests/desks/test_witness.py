@@ -53,8 +53,8 @@ def test_goes_on_without(room):
 
 
 def test_waits_for_it():
-    """where the witness is required, and silent or away, no answer is shown, also at an end, and that is said. The next start shows it, and
-    nothing before the witness has that start too"""
+    """while a witness that is required is silent or away, the office shows no answer, also at its end, and says so. The next start shows
+    it, and nothing before the witness has that start too"""
     with running(Witnessed("--witness-required", measures=["PATIENCE"], seconds=20)) as room:
         desk = room.desk(1).talk("return 1 1 1 525 -> stored 1")
         room.signal(signal.SIGSTOP)
@@ -89,8 +89,8 @@ def test_waits_for_it():
 
 @pytest.mark.xdist_group("times")
 def test_slow_witness():
-    """a start waits for a witness that takes seconds. Where each message takes three seconds on its way the first answer waits for a
-    bounded time; then the witness is away, as log, folder and desks say, also once it has all, as long as it is slow"""
+    """a start waits for a witness that takes seconds. If each message takes three seconds on its way, the first answer waits for a bounded
+    time; then the witness is away, as log, folder and desks say, also once it has all, as long as it is slow"""
     with Witnessed(measures=["PATIENCE", "QUICK", "MEETING"]) as room:
         room.delay.write_text("1")
         room.start()
@@ -111,6 +111,7 @@ def test_slow_witness():
         stays("it stays away", lambda: room.said_of_it().startswith(IS_AWAY), 15)  # for two answers of it
         room.delay.write_text("0")
         room.says_of_it(IS_THERE)
+        room.has_all()
         room.check()
 
 
@@ -122,7 +123,7 @@ def test_slow_witness():
     ("echo '[1]'", "what came is no message"), ("echo Welcome", "what came is no message"),
 ])
 def test_no_such_command(new_room, words, why):
-    """where the command can't be started, or says something else, the office goes on, and says why; half a word is refused"""
+    """if the command can't be started, or says something else, the office goes on and says why; an open quotation mark is refused"""
     new_room.options = ["--witness", words]
     new_room.start().says(IS_AWAY, why)
     assert new_room.ask(1, "return 1 1 1 525").out == ["stored 1"]

@@ -2,6 +2,7 @@
 zhcount-witness takes: the folder, who has it, and messages of any kind."""
 import json
 import os
+import shutil
 import signal
 
 import pytest
@@ -51,7 +52,7 @@ def test_another_log(new_room, when, is_longer):
 
 
 def test_nothing_is_shown_that_it_has_not_written():
-    """an answer is shown once the witness has written it: not while that is about to do so"""
+    """an answer is shown once the witness has written it, and not while it is about to write"""
     stopped, armed = [], []
 
     def before(call):
@@ -77,18 +78,21 @@ def test_nothing_is_shown_that_it_has_not_written():
 def test_witness_that_lacks_much():
     """a start waits for a witness that lacks much, which gets it in messages of at most 64 KB, and is there as long as it takes in one
     after the other"""
-    with Witnessed(measures=["SILENCE", "PATIENCE"]) as room:
-        came, room.options = room.path / "came", []
-        room.start()
-        room.desk(1).end(b"".join(b"\xff" * 117 + b"%04d\n" % number for number in range(500)))
-        room.stop()
-        room.options = ["--witness", f"sh -c \"tee '{came}' | '{room.command}'\""]
-        room.delay.write_text("0.4")
-        room.start()
-        room.has_all()
-        sizes = [len(it) + 1 for it in came.read_bytes().split(b"\n")]
-        assert "no witness" not in room.office.said(), f"it is there: {room.office.said()}"
-        assert "the witness has been connected" in room.office.error[0], f"it was there first: {room.office.said()}"
+    for _ in range(3):  # on a busy machine one message alone can take longer than a witness may be silent
+        with Witnessed(measures=["SILENCE", "PATIENCE"]) as room:
+            came, room.options = room.path / "came", []
+            room.start()
+            room.desk(1).end(b"".join(b"\xff" * 117 + b"%04d\n" % number for number in range(500)))
+            room.stop()
+            room.options = ["--witness", f"sh -c \"tee '{came}' | '{room.command}'\""]
+            room.delay.write_text("0.4")
+            room.start()
+            room.has_all()
+            said, sizes = room.office.said(), [len(it) + 1 for it in came.read_bytes().split(b"\n")]
+        if "no witness" not in said:
+            break
+    assert "no witness" not in said, f"it is there: {said}"
+    assert said.startswith("zhcount-office: the witness has been connected"), f"it was there first: {said}"
     assert sum(sizes) > 300_000 and 20_000 < max(sizes) <= 65536, f"messages: {sizes}"
 
 
@@ -96,7 +100,7 @@ def test_witness_that_lacks_much():
 
 
 def test_waits_for_the_one_before(new_room):
-    """a witness waits for the witness that has its folder, and that is said; one that hears nothing for 20 seconds ends"""
+    """a witness and an office wait for the witness that has their folder, and say so; one that hears nothing for 20 seconds ends"""
     first = new_room.process(Process, new_room.script("zhcount-witness", new_room.copy))
     first.write(f"{json.dumps(GREETING)}\n")
     until("it is ready", lambda: first.out)
@@ -111,6 +115,11 @@ def test_waits_for_the_one_before(new_room):
     new_room.office.says("the witness has been connected since")
     assert new_room.ask(1, "return 1 1 1 525").out == ["stored 1"]
     new_room.has_all()
+    disk = shutil.copyfile(new_room.disk, new_room.path / "saved.disk")
+    second = new_room.process(Process, new_room.script("zhcount-office", new_room.setup, disk, new_room.copy))
+    second.says(f"waiting for the end of zhcount-witness, process {new_room.witness()} of ")
+    new_room.stop(signal.SIGKILL)
+    second.says("desks can send lines")
 
 
 def spoken(room, *messages, folder=None):

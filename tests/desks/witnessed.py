@@ -4,13 +4,12 @@ import signal
 import sys
 
 from logs import events
-from now import command_of
-from processes import until
+from processes import command_of, until
 from quiet import patient_scripts, quiet_scripts
 from room import SCRIPTS, Room
 
-# A witness that can't be started while the file `away` is there. If `delay` is there when it is started, each message takes as many seconds
-# as that says on its way to the witness and on its way back.
+# A witness that can't be started while the file `away` exists. If `delay` exists when it is started, each message takes the seconds that
+# this file contains, on its way to the witness and on its way back.
 COMMAND = """#!/bin/bash
 slowly() {{ while IFS= read -r line; do sleep "$(cat {delay})"; printf '%s\\n' "$line"; done; }}
 [ -e {away} ] && exit 1
@@ -20,8 +19,8 @@ slowly | {python} {script} {copy} | {{ slowly; kill $$; }}
 
 
 class Witnessed(Room):
-    """A room whose office has a witness, in another folder. The times that a test measures are those of the office. The others are as long
-    as a busy machine may need."""
+    """A room whose office has a witness, in another folder. Only the times of the office that a test measures are as usual. The others are
+    long enough for a busy machine."""
 
     def __init__(self, *options, measures=(), seconds=60):
         super().__init__()

@@ -50,20 +50,20 @@ class Room:
         return [str(self.program), name, "--setup", setup or self.setup, *rest]
 
     def run(self, task: Task, lines: str = "", before: Sequence[str] = (), setup: Optional[str] = None) -> Ran:
-        """What a task does with these lines as its input, and its output in a file. `before` are words before the command."""
+        """A run of a task with these lines as its input, and its output in a file. `before` are words before the command."""
         with open(self.path / "out", "wb") as out:
             ran = subprocess.run([*before, *self.words(task, setup)], cwd=self.path, input=lines.encode(), stdout=out,
                                  stderr=subprocess.PIPE, timeout=SECONDS)
         return Ran(ran.returncode, *(it.decode(errors="replace") for it in ((self.path / "out").read_bytes(), ran.stderr)))
 
     def begun(self, disk: str, lines: str) -> Process:
-        """A run on a disk that has these lines as its input so far."""
+        """The process of a run on a disk, with these lines as its input so far."""
         run = Process(self.words(["run", "--disk", str(self.path / disk)]), {})
         run.write(lines)
         return run
 
     def ends(self, task: Task, status: int = 0, fault: str = "", out: Optional[str] = "", **how) -> str:
-        """The output of a task that ends with this status, this fault, or none, and this output, or any."""
+        """The output of a task, which must end with this status, fault and output. None is any output."""
         ran = self.run(task, **how)
         assert ran == (status, ran.out if out is None else out, f"zhcount: {fault}\n" if fault else ""), f"{task}: {ran}"
         return ran.out

@@ -73,7 +73,7 @@ def test_allocation_is_refused(task, folder):
     """The fault is memory, and the disk is untouched."""
     (folder.path / "lines").write_text("1 show 1 1\n")
     (folder.path / "returns.csv").write_text(HEAD + "1,1,2,14\n2,2,2,15\n")
-    # there is no room for the rows of a file, nor for a search
+    # (no memory for the rows of a file, or for a search)
     faults = [NO_MEMORY, {"load": "refused memory\n", "seats": "zhcount: refused memory\n"}.get(task.split()[0])]
     if task == FORMAT:
         folder.before = None

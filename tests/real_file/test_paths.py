@@ -91,7 +91,7 @@ def test_files_beside_the_disk(room: Room) -> None:
 
 
 def test_a_name_of_247_bytes_is_a_disk_and_a_longer_one_is_not(room: Room) -> None:
-    """Beside a name there has to be one with -journal."""
+    """The name with -journal must fit, too."""
     name = f"kinds/{'x' * 247}"
     room.takes_a_new_disk(name)
     room.ends(["format", "--disk", f"{name}x"], 1, f"disk device\n{name}x: the name is too long")
@@ -101,7 +101,7 @@ def test_a_name_of_247_bytes_is_a_disk_and_a_longer_one_is_not(room: Room) -> No
 
 
 def test_a_disk_that_is_made_is_for_its_owner_alone(room: Room) -> None:
-    """A file that is there keeps its mode."""
+    """A file that exists keeps its mode."""
     room.ends("format --disk kinds/d", before=bash('umask 0; exec "$@"'))
     room.serves("kinds/d", returns(1, 1, 1), "1 stored 1\n")
     empty = room.path / "kinds/empty"
@@ -126,6 +126,10 @@ def test_no_permission_for_a_file_or_its_folder(room: Room) -> None:
                               ("check --sheet denied.sheet", "sheet file", "denied.sheet")):
         room.ends(task, 1, f"{fault}\n{path}: no permission", before=before)
     room.ends("list --of groups", 1, "setup file\ndenied.setup: no permission", before=before, setup="denied.setup")
+
+
+def test_a_record_without_an_end_is_refused(disk: Room) -> None:
+    disk.ends("load --disk d --csv /dev/zero", 1, out="refused csv\n")
 
 
 @pytest.mark.parametrize("task, fault", [
