@@ -20,6 +20,7 @@ const LAST_COMMA = patternOf(', $');
 
 // Reads a line: the head of a table, or a key with its value and the kind of that, or nothing.
 function understood(number, line) {
+  if (line === '') return {};
   if (line.includes('\r')) throw new Fault(number, line, 'loneReturn');
   const found = LINE.exec(line)?.groups;
   const items = found?.list?.replace(LAST_COMMA, '').split(',');
