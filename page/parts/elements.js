@@ -4,13 +4,13 @@ const find = (id) => document.getElementById(id);
 /** @type {(part: Element, css: string) => HTMLElement | null} */
 const within = (part, css) => part.querySelector(css);
 
-// Those of these children, texts or elements, that are there.
+// The children, texts or elements, without null, undefined, false and empty texts.
 const present = (children) => children.flat(Infinity).filter((child) => ![null, undefined, false, ''].includes(child));
 
 function fill(element, attributes, children) {
   for (const [name, value] of Object.entries(attributes)) {
     if (name === 'onclick') element.addEventListener('click', value);
-    else if (value !== null && value !== false) element.setAttribute(name, value === true ? '' : `${value}`);
+    else if ((value ?? false) !== false) element.setAttribute(name, value === true ? '' : `${value}`);
   }
   element.append(...present(children));
   return element;

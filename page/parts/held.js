@@ -10,10 +10,10 @@ const isRow = (fields) => fields.length === 4 && fields.slice(0, 3).every(isNume
 function readHeld(text, setup) {
   const votes = new Map();
   const seen = new Set();
-  for (const [number, line] of linesOf(text)) {
-    const fault = (reason) => new Fault(number, line, reason);
-    if (number === 1 && line !== 'municipality,list,number,votes') throw fault('csvHead');
-    if (number === 1 || line === '') continue;
+  for (const [i, line] of linesOf(text).entries()) {
+    const fault = (reason) => new Fault(i + 1, line, reason);
+    if (i === 0 && line !== 'municipality,list,number,votes') throw fault('csvHead');
+    if (i === 0 || line === '') continue;
     const fields = line.split(',');
     if (!isRow(fields)) throw fault('csvRow');
     const [municipality, list, , count] = fields;

@@ -1,6 +1,6 @@
 // ---- What kind of wrong a sheet is, and whether seats change
 
-// What has become of a sheet that can't be read on its way, by the fault in it.
+// How a sheet was changed on its way so that it can't be read, by the fault in it.
 const ON_ITS_WAY = {
   cut: 'isCut', cutWithin: 'isCut', early: 'isCut', mark: 'isAltered', carriageReturn: 'isAltered', blank: 'isAltered', noDesk: 'isCopied',
   unreadable: 'isNotRead',

@@ -20,6 +20,7 @@ const LAST_COMMA = patternOf(', $');
 
 // Reads a line: the head of a table, or a key with its value and the kind of that, or nothing.
 function understood(number, line) {
+  if (line === '') return {};
   if (line.includes('\r')) throw new Fault(number, line, 'loneReturn');
   const found = LINE.exec(line)?.groups;
   const items = found?.list?.replace(LAST_COMMA, '').split(',');
@@ -31,15 +32,16 @@ function understood(number, line) {
   return items ? { key, kind: 'numbers', value: items.map(Number) } : { key, kind: 'name', value: name.replace(/\\(.)/gu, '$1') };
 }
 
-// The lines of a text with their numbers, without LF and CR LF.
-const linesOf = (text) => text.split(/\r?\n/u).map((line, i) => [i + 1, line]);
+// The lines of a text, without LF and CR LF.
+const linesOf = (text) => text.replaceAll('\r\n', '\n').split('\n');
 
 // The tables of the text: the top one, and those of each kind in order. Each has its line, and its values with theirs.
 function tablesOf(text) {
   const top = { kind: 'top', line: 1, text: '', values: {} };
   const tables = { constituency: [], municipality: [], group: [] };
   let table = top;
-  for (const [number, line] of linesOf(text)) {
+  for (const [i, line] of linesOf(text).entries()) {
+    const number = i + 1;
     const { table: kind, key, kind: is, value } = understood(number, line);
     if (kind) {
       table = { kind, line: number, text: line, values: {} };

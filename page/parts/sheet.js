@@ -8,20 +8,26 @@ class Fault extends Error {
   }
 }
 
-// The text of a file, with a byte order mark if it begins with one. The first line that is not UTF-8 is a fault.
+// The bytes as UTF-8, with a byte order mark if they begin with one; null if they are not UTF-8.
+function textOf(bytes) {
+  try {
+    return new TextDecoder('utf-8', { fatal: true, ignoreBOM: true }).decode(bytes);
+  } catch {
+    return null;
+  }
+}
+
+// The text of a file. The first line that is not UTF-8 is a fault.
 function decoded(bytes) {
-  const decoder = new TextDecoder('utf-8', { fatal: true, ignoreBOM: true });
-  const lines = [];
-  for (let start = 0, end = 0; end >= 0; start = end + 1) {
+  const text = textOf(bytes);
+  let number = 0;
+  for (let start = 0, end = 0; text === null && end >= 0; start = end + 1) {
+    number += 1;
     end = bytes.indexOf(10, start);
     const line = bytes.subarray(start, end < 0 ? bytes.length : end);
-    try {
-      lines.push(decoder.decode(line));
-    } catch {
-      throw new Fault(lines.length + 1, new TextDecoder().decode(line), 'notText');
-    }
+    if (textOf(line) === null) throw new Fault(number, new TextDecoder().decode(line), 'notText');
   }
-  return lines.join('\n');
+  return text;
 }
 
 // How the words in braces are written, and how they are read; all others are numbers. A word with a stroke can be a stroke alone.
