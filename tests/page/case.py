@@ -40,7 +40,7 @@ def said(title=""):
 
 
 class Case(unittest.TestCase):
-    """Tests with one browser for a whole class, which runs in one process therefore. Each test opens the page anew."""
+    """Tests with one browser for a whole class, so that it runs in one process. Each test opens the page anew."""
     language = "en-GB"
     path = browser.PAGE  # of the page that is tested
     starts, ends = staticmethod(browser.started), staticmethod(lambda driver: driver.quit())

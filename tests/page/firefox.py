@@ -44,7 +44,7 @@ class Marionette:
         """The port that it listens on, once it has written it into its profile."""
         assert process.poll() is None, "Firefox did not start"
         file = self.profile / "MarionetteActivePort"
-        return file.exists() and int(file.read_text() or 0)
+        return file.exists() and int(file.read_text().strip() or 0)
 
     def message(self):
         """The next message: its length in digits, a colon, and JSON."""

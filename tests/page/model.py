@@ -7,7 +7,7 @@ MILLION = 1_000_000
 
 
 def fit(weights, total):
-    """The seats of these weights, given one by one to whom the next is worth most, and their key."""
+    """The seats of these weights, given one by one to the weight whose next seat is worth most, and their key."""
     seats = [0] * len(weights)
 
     def following():

@@ -5,8 +5,8 @@ from case import EXAMPLE, LARGEST, ROWS, SETUP, Case, changed
 
 MIB = 1_048_576
 LONGEST_SHEET, LONGEST_ROWS = 280_064, 483_488
-# What is opened is read, checked, shown and laid out in fewer milliseconds: ten times what the slowest takes. What goes through a text
-# again and again takes more. A machine that is busy or slow may take longer, by as much as a loop takes more than YARDSTICK there.
+# Files are read, checked, shown and laid out in fewer than MOST milliseconds; going through a text again and again takes more. On a busy
+# or slow machine the limit grows with the time of a loop, which takes YARDSTICK milliseconds on a free one.
 MOST, YARDSTICK = 5000, 60
 
 HOUSE, ROW, HEAD = "house = 10", "1,2,1,300", "municipality,list,number,votes\n"
@@ -29,7 +29,7 @@ SET_UPS = (
     (7, "this name is there twice", '"Mitte"', '"Nord"'),
     (1, "“house” is missing", HOUSE, ""), (3, "“house” is there twice", HOUSE, "house = 10\nhouse = 10"))
 MAY_HAVE = ("\t house\t =\t10 \t", "house = 10 # a tab\tis none, nor is \u00e9\u2028", "\n# a remark\n\nhouse = 10  # more")
-# And of rows.
+# Faults of rows.
 HELD = ((3, NO_ROW, ROW, "1,2,4294967296,300", "1,2,0,300", "1,2,1,4294967296", "4294967296,2,1,300", "1,4294967296,1,300",
          "1,2,1,300,", "1,2,1,0300", "1,2,1, 300", "1,2,1,\u0663", "1,2,1"),
         (3, "more than 1,000,000,000 votes", ROW, "1,2,1,4294967295"), (4, "there twice", "1,3,1,175", "1,2,1,175"),
@@ -88,16 +88,20 @@ class Limits(Case):
         self.assertEqual(sums, [hashlib.sha256(bytes(i % 251 for i in range(length))).hexdigest() for length in lengths])
 
     def is_quick(self, *given):
-        """Opening these files, (name, content) each, takes a time in proportion to their length, less than a second on a free machine."""
+        """Opening these files, (name, content) each, takes a time in proportion to their length. The shorter of two tries counts."""
         self.assertLess(self.page.run("""
             const [given, limit, yardstick] = arguments;
             const bytes = (it) => (typeof it === 'string' ? new TextEncoder().encode(it) : Uint8Array.from(it));
             const contents = given.map(([name, it]) => [name, bytes(it).subarray(0, MOST_READ)]);
             const timed = (work) => { const begun = performance.now(); work(); return performance.now() - begun; };
             const loop = () => { for (let [i, sum] = [0n, 0n]; i < 3000000n; i += 1n) sum = (sum * 31n + i) % 1000003n; };
-            Object.assign(files, { sheet: null, before: null, setup: null, held: null });
-            const time = timed(() => { takeFiles(contents.map((it) => opened(...it))); document.body.getBoundingClientRect(); });
-            return time < limit ? time : time / Math.max(1, timed(loop) / yardstick);
+            const tried = () => {
+              Object.assign(files, { sheet: null, before: null, setup: null, held: null });
+              const time = timed(() => { takeFiles(contents.map((it) => opened(...it))); document.body.getBoundingClientRect(); });
+              return time < limit ? time : time / Math.max(1, timed(loop) / yardstick);
+            };
+            const first = tried();
+            return first < limit ? first : Math.min(first, tried());
         """, given, MOST, YARDSTICK), MOST, [text[:40] for _, text in given])
 
     def test_sheets_take_little_time(self):

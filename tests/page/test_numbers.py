@@ -11,7 +11,7 @@ class Numbers(Case):
         self.plays("panels")
 
     def test_a_mark_and_its_panel_have_one_source(self):
-        """Of all files of said.case: a cell that the table marks as wrong has a panel that says so, with reasons, and no other has."""
+        """With all files of said.case: a cell that is marked as wrong has a panel that says so in red, with reasons, and no other has."""
         marked = []
         for given in dict.fromkeys(tuple(files.get(name) for name in rest.split()) for word, rest, files in said() if word == "open"):
             for *marks, wrong, red in self.page.show(*given).run("""
@@ -20,10 +20,12 @@ class Numbers(Case):
                   const count = (css) => document.querySelectorAll(`#detail ${css}`).length;
                   const wrong = count('h2 .said.wrong') === 1;
                   return [button.classList.contains('bad'), button.querySelector('.mark.wrong') !== null,
-                    button.getAttribute('aria-label').endsWith(', wrong'), count('.reason') > 0, wrong, count('dl .mark.wrong') > 0];
+                    button.getAttribute('aria-label').endsWith(', wrong'), count('.reason') > 0,
+                    getComputedStyle(document.querySelector('#detail h2 .mark')).color === 'rgb(176, 0, 32)',
+                    wrong, count('dl .mark.wrong') > 0];
                 });
             """):
-                self.assertEqual(marks, [wrong] * 4)
+                self.assertEqual(marks, [wrong] * 5)
                 self.assertTrue(wrong or not red)
                 marked.append(wrong)
         self.assertGreater(sum(marked), 100)

@@ -3,6 +3,7 @@ for byte what that does."""
 import base64
 import concurrent.futures
 import functools
+import hashlib
 import os
 import pathlib
 import random
@@ -191,8 +192,12 @@ class Chromium(Proved, Case):
 
 
 class Firefox(Proved, Chosen, Case):
-    """The proved check, and what is drawn."""
+    """The proved check, what is drawn, and a sum, whose constants the browser computes."""
     starts = staticmethod(lambda language: firefox.started())
+
+    def test_a_sum(self):
+        found = self.page.run("return sha256(new TextEncoder().encode(arguments[0]))", EXAMPLE)
+        self.assertEqual(found, hashlib.sha256(EXAMPLE.encode()).hexdigest())
 
     def test_how_far_the_count_is(self):
         page = self.page.choose(("setup.toml", SETUP), ("held.csv", FEW))

@@ -4,7 +4,7 @@ import model
 from case import EXAMPLE, Case, changed
 from sheets import ZURICH
 
-# What makes a line one that does not belong into a sheet, or not there.
+# Changes after which a line does not belong into a sheet, or not in its place.
 FORMS = ((1, "1 sheet", "0 sheet"), (1, "1 sheet", "9 sheet"), (1, "1 sheet", " sheet"), (1, "provisional", "preliminary"),
          (2, "house 10", "house 010"), (2, "house 10", "house  10"), (5, "205.000000", "205.00000"), (8, "yes voters", "maybe voters"),
          (11, "525", "0525"), (11, "525", "-525"), (20, "end", "End"), (20, "end", "end "))
