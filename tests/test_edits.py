@@ -102,6 +102,7 @@ def test_gravest(tree):
     text, alone = entries_of(edits)["step_of_three"], tree.top / "crates/zh_low/must-fail/step_of_three.edit"
     alone.parent.mkdir()
     alone.write_text(text)
+    tree.says(1, "have an edit of one name: step_of_three", words=["--differ"])
     tree.change(edits, f"\nname: step_of_three\n{text}", "")
     tree.says(0, "none; of the others the 1 gravest", words=["--differ"])
     gravest.write_text("zh_low/next.adds_three  it is not the next\n")

@@ -87,7 +87,8 @@ def of_desks(test, folder, says):
     if in_vain:
         return {"DESKS": str(folder), "IN_VAIN": in_vain}
     # many nights, what must happen at once, or what soon follows
-    return {"DESKS": str(folder), "PATIENCE": "90" if test.startswith("test_stops.py") else "30" if says == "not after" else "60"}
+    patience = "90" if test.startswith("test_stops.py") else "30" if says == "not after" else "60"
+    return {"DESKS": str(folder), "PATIENCE": os.environ.get("PATIENCE", patience)}
 
 
 def of_the_page(test, folder, says):

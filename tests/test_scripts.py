@@ -138,6 +138,7 @@ def test_a_first_check_says_what_comes_before(sh):
     assert sh("make -s check CRATE=zh_low") == ("logic=proved\n", "", 0)
     said = sh("make -s check CRATE=zhcount")[0]
     assert said.startswith("crates below this one come first, 1 at most, ") and said.endswith("\nlogic=proved\n")
+    assert sh("make -s check CRATE=zhcount") == ("logic=proved\n", "", 0)
 
 
 def test_a_build_that_is_refused_names_its_crate(built):

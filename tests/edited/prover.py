@@ -55,7 +55,7 @@ class Prover:
         return Report(said, status)
 
     def call(self, words, folder):
-        """What a command says in this folder, and its status. It ends with this process."""
+        """What a command says in this folder, and its status. By setpriv, of util-linux, it ends with this process."""
         try:
             ran = subprocess.run(["setpriv", "--pdeathsig", "KILL", *words], cwd=folder, timeout=SECONDS, **SAID)
             return ran.stdout, ran.returncode
@@ -87,8 +87,13 @@ def build_libraries(tree, crates, jobs, say):
 
 
 def processors():
-    """The processors that the process may use."""
-    return len(os.sched_getaffinity(0))
+    """The processors that the process may use, by its group's quota too."""
+    found = len(os.sched_getaffinity(0))
+    try:
+        quota, period = map(int, Path("/sys/fs/cgroup/cpu.max").read_text().split())
+        return max(1, min(found, quota // period))
+    except (OSError, ValueError):  # the group has no quota
+        return found
 
 
 def free_memory():

@@ -32,17 +32,22 @@ class Tree:
 
     def below(self, *crates):
         """The crates that these use, directly or not, lowest first; none of these, unless another uses it."""
-        found = {used for it in crates for used in self.uses[it]}
-        for name in reversed(self.named):  # crates.txt lists a crate after those that it uses
-            found.update(self.uses[name] if name in found else ())
+        found, rest = set(), [used for it in crates for used in self.uses[it]]
+        while rest:
+            name = rest.pop()
+            if name not in found:
+                found.add(name)
+                rest += self.uses[name]
         return [it for it in self.named if it in found]
 
     def edits(self, crate):
         """The wrong bodies of a crate, in both places."""
         folder, others = self.folder(crate), self.top / f"tests/wrong_bodies/{crate}.edits"
-        texts = {it.stem: it.read_text(encoding="utf-8") for it in sorted((folder / "must-fail").glob("*.edit"))}
-        texts.update(entries_of(others) if others.is_file() else {})
-        return [Edit(name, folder, text) for name, text in texts.items()]
+        alone = {it.stem: it.read_text(encoding="utf-8") for it in sorted((folder / "must-fail").glob("*.edit"))}
+        found = entries_of(others) if others.is_file() else {}
+        for name in alone.keys() & found.keys():
+            raise ValueError(f"{others} and {folder}/must-fail have an edit of one name: {name}")
+        return [Edit(name, folder, text) for name, text in {**alone, **found}.items()]
 
     def gravest(self, crate):
         """Its wrong bodies that tests/wrong_bodies/gravest names, each with a reason, but for those that rt ci tries."""

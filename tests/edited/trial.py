@@ -88,8 +88,11 @@ def judged(report, crate, edit, is_alone):
 def try_batch(prover, seed, crate, batch):
     """What each edit of the batch came to, as above."""
     texts = {}
-    for edit in batch:
-        texts = edit.applied(texts)
+    try:
+        for edit in batch:
+            texts = edit.applied(texts)
+    except NoLongerApplies as why:
+        return [(GONE, str(why)) if len(batch) == 1 else None for _ in batch]
     report = prover.check_over(seed, crate, texts, [it for edit in batch for it in edit.functions])
     return [judged(report, crate, edit, len(batch) == 1) for edit in batch]
 

@@ -34,6 +34,8 @@ def check(tree, *names):
 
 def reach(tree, *names):
     asked = [it for it in tree.clauses if it.function in names or f"{it.function}.{it.name}" in names]
+    if names and not asked:
+        sys.exit("No function or clause has this name.")
     reached = tree.closure(asked if names else promised(tree)[0])
     for it in (tree.definitions[key] for crate in tree.crates for key in tree.in_order(crate) if key in reached):
         print(f"crates/{it.crate}/specs/{it.module}.antt:{it.line} {it.name}{it.comment and f': {it.comment}'}")

@@ -59,11 +59,12 @@ def things(tree):
 
 def places(tree):
     """Functions, types and definitions that a link of a page names, and that its file does not define."""
+    methods = {(tree.top / it.path, it.function.split(" for ")[-1]) for it in tree.clauses}
     for page in tree.pages:
         for number, line in enumerate(tree.read(page).splitlines(), 1):
             for name, link in LINKED.findall(line):
-                file = (tree.top / page).parent / link
-                if file.exists() and name.split("::")[-1] not in DEFINED.findall(file.read_text(encoding="utf-8")):
+                file = tree.top / os.path.normpath(f"{os.path.dirname(page)}/{link}")
+                if file.exists() and (file, name) not in methods and name not in DEFINED.findall(file.read_text(encoding="utf-8")):
                     yield f"{page}:{number}: {link} does not define {name}"
 
 

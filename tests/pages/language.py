@@ -16,7 +16,14 @@ def long_lines(tree):
                 yield f"{page}:{number}: {len(line)} characters: {line}"
 
 
-def features(section):
+def place_of(link, translated):
+    """The file to which a link leads, and the heading, unless this is of a page that has headings in both languages."""
+    file, _, heading = link.partition("#")
+    name = file.rpartition("/")[2]
+    return name if name in translated else f"{name}#{heading}"
+
+
+def features(section, translated):
     """What must be the same in both languages, by its name."""
     text = "\n".join(section.lines)
     prose = prose_of(text)
@@ -26,14 +33,16 @@ def features(section):
         "row of a table": Counter("|" for it in section.lines if it.startswith("|")),
         "item": Counter(re.findall(r"^(?:[-*]|\d+\.) ", prose, re.M)),
         "word in backticks": Counter(CODE.findall(prose)),
-        "link": Counter(re.sub(r"#.*|.*/", "", it) for _, it in links_of(text)),
+        "link": Counter(place_of(it, translated) for _, it in links_of(text)),
         "number": Counter(re.sub("[,'’]", "", it) for it in NUMBER.findall(plain)),
     }
 
 
 def translations(tree):
     """What a page or a section has in one language and not in the other, and ß, which is not written in Switzerland."""
-    for german in (it for it in tree.pages if it.startswith(GERMAN)):
+    pages = [it for it in tree.pages if it.startswith(GERMAN)]
+    translated = ["", *(it.removeprefix(GERMAN) for it in pages)]
+    for german in pages:
         english = german.replace(GERMAN, "docs/")
         found, wanted = (sections_of(tree.read(it)) if it in tree.pages else [] for it in (german, english))
         if [it.level for it in found] != [it.level for it in wanted]:
@@ -41,7 +50,7 @@ def translations(tree):
             continue
         yield from (f"{german}:{it.line}: ß in this section" for it in found if "ß" in "".join(it.lines))
         for one, other in zip(found, wanted):
-            here, there = features(one), features(other)
+            here, there = features(one, translated), features(other, translated)
             for what in here:
                 for word, more in (("not", here[what] - there[what]), ("only", there[what] - here[what])):
                     yield from (f"{german}:{one.line}: {what} {word} in {english}:{other.line}: {it}, {more[it]} times" for it in more)

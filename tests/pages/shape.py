@@ -1,5 +1,5 @@
-"""The shape of the crates: one name is one thing, a definition has few parameters, a line can be read without scrolling, and a clause
-sees all code."""
+"""The shape of the crates: one name is one thing, a definition has few parameters, a line can be read without scrolling, and code that no
+clause sees is refused."""
 import re
 from itertools import takewhile
 

@@ -49,7 +49,7 @@ def evidence(tree, table):
         "definitions": f"{len(tree.definitions):,}",
         "definitions that `headline` reaches": f"{len(reached)}, with {sum(len(it.text) for it in reached):,} lines",
         "clauses that promise something": f"{sum(bool(it.text) for it in tree.clauses):,}",
-        "wrong bodies": f"{found('crates/*/must-fail/*.edit', '^file: ') + found('tests/wrong_bodies/*.edits', '^name: '):,}",
+        "wrong bodies": f"{len([*tree.top.glob('crates/*/must-fail/*.edit')]) + found('tests/wrong_bodies/*.edits', '^name: '):,}",
         "the gravest of them": found("tests/wrong_bodies/gravest", "^zh_"),
         "cases": f"{cases:,}, with {turns:,} turns",
         "tests in code": found("crates/*/src/**/*.rt", "^ *#.test."),
@@ -57,6 +57,8 @@ def evidence(tree, table):
         "tests of the page": found("tests/page/test_*.py", "^ *def test_"),
         "wrong lines of the page": found("tests/page/plants/*.edits", "^seen by: "),
     }
+    gone = numbers.keys() - {*re.findall(r"^\| (.+?) \|", table, re.M)}
+    assert not gone, f"the table has no row of {', '.join(gone)}"
     return re.sub(r"^\| (.+?) \| (.+?) \|", lambda it: f"| {it[1]} | {numbers.get(it[1], it[2])} |", table, flags=re.M)
 
 
