@@ -72,7 +72,10 @@ static void append(int file, int page, int pages) {
 int main(int argc, char **argv) {
     if (argc != 4)
         return 2;
-    int pages = atoi(argv[2]), records = atoi(argv[3]), file = open_file(argv[1]);
+    int pages = atoi(argv[2]), records = atoi(argv[3]);
+    if (pages * records > JOURNAL_LENGTH / PAGE)
+        return 2;
+    int file = open_file(argv[1]);
     open_disk(file);
     for (int k = 0; k < records; k++) {
         append(file, k * pages, pages);

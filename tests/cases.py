@@ -6,7 +6,7 @@ BLOCK = re.compile(r"^( *)repeat (\w+) = (.+?) *\n((?:.*\n)*?)\1end repeat *(?:\
 
 
 def repeated(lines):
-    """Lines in which `repeat n = 1 to 3` .. `end repeat` are written out (docs/CASES.md, "Repetitions")."""
+    """Lines in which `repeat n = 1 to 3` .. `end repeat`, with the same indent, are written out (docs/CASES.md, "Repetitions")."""
     return BLOCK.sub(written_out, "\n".join(lines)).split("\n")
 
 

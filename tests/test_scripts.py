@@ -11,7 +11,7 @@ from places import TOP
 # `rt run` makes a program that says what text it was built from; `rt try` compiles one and runs it: try -- list --setup FILE --of groups.
 RT = r"""#!/usr/bin/env bash
 case "$1" in
-    version) echo "kit of the test" ;;
+    version) echo "kit of the test logic 0" ;;
     check)
         mkdir -p out/incremental
         printf 'fn a: proved\nlogic=proved\n'
