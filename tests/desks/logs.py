@@ -4,6 +4,7 @@ import contextlib
 import hashlib
 import json
 import pathlib
+import re
 import sqlite3
 import tempfile
 
@@ -42,6 +43,11 @@ def events(folder, read=bytes_of):
         with contextlib.closing(sqlite3.connect(copy)) as db:
             return [Event(*row) for row in db.execute("SELECT * FROM event ORDER BY number")]
     return []
+
+
+def first_words(answer):
+    """An answer as a desk shows it or as the log has it; of a sheet what both have."""
+    return re.match(r"(?:\d (?=sheet ))?(sheet \w+ \d+|.*)", answer)[1]
 
 
 def check_chain(folder):

@@ -4,13 +4,13 @@ night."""
 import contextlib
 import os
 import random
-import re
 import signal
 import time
 
 import pytest
 
 from counting import Count, random_line
+from logs import first_words
 from quiet import QuietRoom
 from room import running, until
 from witnessed import Witnessed
@@ -28,11 +28,6 @@ def serves(room):
         assert status in (1, -signal.SIGKILL), f"the office ends with {status}: {room.office.said()}"
         room.start(is_awaited=False)
     return room.serves()
-
-
-def words(answer):
-    """An answer, of a sheet the first words, as a desk shows it or as the log has it."""
-    return re.search(r"sheet \w+ \d+|.*", answer)[0]
 
 
 @pytest.mark.parametrize("kind", [QuietRoom, Witnessed], ids=["alone", "with a witness"])
@@ -58,8 +53,8 @@ def test_kills(kind):
                 lines[number].append(line)
                 desks[number].write(f"{line}\n")
         for number, desk in desks.items():
-            shown = [words(desk.answer(line, lambda: serves(room))) for line in lines[number]]
-            assert shown == [words(answer) for _, answer in room.of_desk(number)], f"what desk {number} was shown"
+            shown = [first_words(desk.answer(line, lambda: serves(room))) for line in lines[number]]
+            assert shown == [first_words(answer) for _, answer in room.of_desk(number)], f"what desk {number} was shown"
             assert desk.end() == 0, f"the end of desk {number}: {desk.said()}"
         if kind is Witnessed:
             room.has_all()

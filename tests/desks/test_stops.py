@@ -6,13 +6,12 @@ import concurrent.futures
 import errno
 import os
 import random
-import re
 import signal
 import subprocess
 
 import pytest
 
-from logs import events
+from logs import events, first_words
 from processes import HAS_ENDED
 from room import until
 from watch import ApartRoom, Device, Stop, WatchedRoom, restore
@@ -72,7 +71,7 @@ class Night:
         if answer is None:
             desk.write(f"{line}\n")
             answer = desk.answer(line, self.look_after_office)
-        return None if answer == HAS_ENDED else re.search(r"sheet \w+ \d+|.*", answer)[0]
+        return None if answer == HAS_ENDED else first_words(answer)
 
     def stage(self):
         """What the office does."""
