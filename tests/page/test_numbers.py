@@ -11,7 +11,7 @@ class Numbers(Case):
         self.plays("panels")
 
     def test_a_mark_and_its_panel_have_one_source(self):
-        """With all files of said.case. Of a cell that is marked as wrong the panel says so, not in green and with reasons; of others not."""
+        """Of the files of said.case: if a cell is marked as wrong, its panel says so, not in green and with reasons; otherwise not."""
         marked = []
         for given in dict.fromkeys(tuple(files.get(name) for name in rest.split()) for word, rest, files in said() if word == "open"):
             for *marks, wrong, red in self.page.show(*given).run("""
