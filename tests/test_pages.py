@@ -12,15 +12,22 @@ each_rule = pytest.mark.parametrize("rule", [
     pytest.param(it, id=it.name, marks=pytest.mark.long if it.name == "examples" else pytest.mark.sources) for it in RULES])
 
 
-def plant(top, path, pattern, text):
-    """Changes the first of these files in which the pattern finds something."""
+@pytest.fixture(scope="module")
+def copy(tmp_path_factory):
+    """A copy of the tree, without what is built."""
+    built = shutil.ignore_patterns("out", ".git", "__pycache__", ".pytest_cache")
+    return shutil.copytree(TOP, tmp_path_factory.mktemp("pages") / "copy", ignore=built)
+
+
+def changed(top, path, pattern, text):
+    """The first of these files in which the pattern finds something, after the change."""
     for file in sorted(top.glob(path)) or [top / path]:
         before = file.read_text(encoding="utf-8") if file.exists() else ""
         after, number = re.subn(pattern, lambda _: text, before, count=1, flags=re.M)
         if number:
             file.write_text(after, encoding="utf-8")
-            return
-    pytest.fail(f"{path} has no place for what is to be planted: {pattern}")
+            return file
+    raise AssertionError(f"{path} has no place for what is to be planted: {pattern}")
 
 
 @each_rule
@@ -30,11 +37,16 @@ def test_holds(rule):
 
 @pytest.mark.plants
 @each_rule
-def test_sees(rule, tmp_path):
-    built = shutil.ignore_patterns("out", ".git", "__pycache__", ".pytest_cache")
-    copy = shutil.copytree(TOP, tmp_path / "copy", ignore=built)
-    for it in rule.changes:
-        plant(copy, *it)
-    faults = list(rule.faults(Tree(copy)))
+def test_sees(rule, copy):
+    files = set()
+    try:
+        for it in rule.changes:
+            files.add(changed(copy, *it))
+        faults = list(rule.faults(Tree(copy)))
+    finally:
+        for it in files:
+            it.unlink()
+            if (TOP / it.relative_to(copy)).exists():
+                shutil.copy(TOP / it.relative_to(copy), it)
     unseen = [it for it in rule.seen if not any(re.search(it, fault) for fault in faults)]
     assert not unseen, faults

@@ -58,12 +58,12 @@ def limits(tree):
     """Limits that their page does not say."""
     part, = ("\n".join(it.lines) for it in sections_of(tree.read(MANUAL)) if it.title == "Limits")
     texts = {FORMATS: tree.read(FORMATS), MANUAL: part}
-    owed = [(FORMATS, "a set-up", it) for it in found_in(tree, OF_SETUP, r"(?<![\w.])(?!1\b)\d+\b")]
+    owed = [(FORMATS, "a limit of a set-up", it) for it in found_in(tree, OF_SETUP, r"(?<![\w.])(?!1\b)\d+\b")]
     for page, constant in ((page, it) for page, names in LIMITS.items() for it in names.split(",")):
         crate, name = constant.split()
         numbers = re.findall(rf"const {name}: \w+ = ([\d_]+);", "\n".join(text for *_, text in tree.files("src/**/*.rt", [crate])))
-        assert numbers, f"a constant is gone: {constant}"
-        owed += [(page, constant, it) for it in numbers]
+        assert numbers, f"{crate} has no constant {name}"
+        owed += [(page, f"{name} of {crate}", it) for it in numbers]
     for page, what, number in owed:
         if not re.search(rf"(?<![\d,.]){int(number):,}(?![\d,]*\d)", texts[page]):
-            yield f"{page} does not say {int(number):,}, a limit of {what}"
+            yield f"{page} does not say {int(number):,}, {what}"

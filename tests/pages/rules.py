@@ -68,7 +68,7 @@ RULES = [
          [(SPECS, 'codes "stale"', 'codes "planted"')], ["FORMATS.md does not say `planted`", "MANUAL.md has no row of `planted`"]),
     Rule("limits", "FORMATS and MANUAL say each limit", owed.limits,
          [(SOURCES, r"const MOST_ROWS: \w+ = [\d_]+;", "const MOST_ROWS: usize = 1_003;")],
-         ["MANUAL.md does not say 1,003, a limit of zh_returns MOST_ROWS"]),
+         ["MANUAL.md does not say 1,003, MOST_ROWS of zh_returns"]),
     Rule("columns", "a line has at most 80 characters", language.long_lines,
          [(FAQ, END, f"\n{'long ' * 16}!\n")], ["81 characters"]),
     Rule("translations", "a German page has the headings, blocks, rows, items, words in backticks, links and numbers of the English, no ß",
