@@ -61,7 +61,7 @@ class Shown(Case):
         self.assertTrue(foot.startswith(f"Is this the real page of zhcount {(TOP / 'VERSION').read_text().strip()}?"), foot)
         self.assertIn("Compute the SHA-256 of this file, and compare it with one that you did not get together with this page", foot)
         command = re.search(r"Linux: (\w+ \S+)", foot)[1]
-        printed = subprocess.run(command.split(), cwd=browser.PAGE.parent, stdout=subprocess.PIPE, text=True, check=True).stdout
+        printed = subprocess.run(command.split(), cwd=TOP / "page", stdout=subprocess.PIPE, text=True, check=True).stdout
         self.assertIn(f"`{printed.split()[0]}`", (TOP / "README.md").read_text())
         self.assertEqual(re.findall("[0-9a-f]{8,}", self.page.text("body")), [])
 
