@@ -11,7 +11,9 @@ const GIVEN = ['setup', 'sheet', 'held'];
 // reason for the last two; `text` are the bytes that it wrote.
 const proved = { state: 'none', why: '', text: null, given: [], run: 0, tell: () => {} };
 
-const moduleBytes = () => Uint8Array.from(atob(MODULE), (c) => c.charCodeAt(0));
+function moduleBytes() {
+  return Uint8Array.from(atob(MODULE), (c) => c.charCodeAt(0));
+}
 
 // Ends the worker that is at work, if there is one.
 let endWorker = () => {};
