@@ -1,40 +1,67 @@
-//! Runs the cases in files, and names the first line of a file whose answer is not the expected one.
+//! Makes the turns of cases: on an office and its disk, on questions, and by runs of the program. `tests/cases.py` reads the
+//! cases (docs/CASES.md), sends each turn and compares its answer.
+//!
+//! The arguments name files with set-ups; `rehearsal` is the set-up of the rehearsal. Each line of standard input is a turn,
+//! and its answer is a line of standard output. If a turn can't be made, the reason goes to standard error, and the status is 1.
 #![tactic(auto)]
 
-mod program;
+mod answer;
+mod disk;
+mod fault;
+mod fixture;
+mod numbers;
+mod question;
+mod reason;
+mod runs;
+mod streams;
+mod texts;
+mod turn;
 
-use program::{run_program, run_within};
+use fault::CaseFault;
+use fixture::Fixture;
 use std::process::ExitCode;
-use zh_case_office::{Fixture, Runner, run_files};
-use zh_case_text::{CaseFault, print_fault};
+use std::{env, fs};
+use turn::make;
+use zh_districts::Setup;
+use zh_setups::{read_setup, rehearsal};
 
-/// Runs the program.
-#[derive(Drop)]
-struct ProgramRuns;
-
-impl Runner for ProgramRuns {
-    fn run(
-        &self,
-        rt: &HostRuntime,
-        fixture: &mut Fixture<'_>,
-        word: &str,
-        rest: &str,
-    ) -> Result<Option<String>, CaseFault> {
-        match word {
-            "zhcount" => Ok(Some(run_program(rt, rest)?)),
-            "within" => Ok(Some(run_within(rt, fixture, rest)?)),
-            _ => Ok(None),
+fn main(rt: HostRuntime) -> ExitCode {
+    match make_turns(&rt) {
+        Ok(()) => ExitCode::SUCCESS,
+        Err(fault) => {
+            let _ = eprintln!(rt; "{fault}");
+            ExitCode::FAILURE
         }
     }
 }
 
-fn main(rt: HostRuntime) -> ExitCode {
-    match run_files(&rt, &ProgramRuns) {
-        Ok(true) => ExitCode::SUCCESS,
-        Ok(false) => ExitCode::FAILURE,
-        Err(fault) => {
-            let _ = print_fault(&rt, &fault);
-            ExitCode::FAILURE
-        }
+/// The set-up in the file with this name, or that of the rehearsal.
+fn setup_of(rt: &HostRuntime, name: &str) -> Result<Setup, CaseFault> {
+    if name == "rehearsal" {
+        return Ok(rehearsal(rt.alloc())?);
     }
+    match read_setup(rt.alloc(), &fs::read(rt, name)?) {
+        Ok(setup) => Ok(setup),
+        Err(_) => Err(CaseFault::Text("this is no set-up")),
+    }
+}
+
+/// The set-ups that the arguments name.
+fn setups_of(rt: &HostRuntime) -> Result<Vec<Setup>, CaseFault> {
+    let mut setups = Vec::new(rt.alloc());
+    for name in env::args(rt)?.skip(1) {
+        setups.push(setup_of(rt, name.as_str())?)?;
+    }
+    Ok(setups)
+}
+
+/// Makes the turns of standard input.
+fn make_turns(rt: &HostRuntime) -> Result<(), CaseFault> {
+    let setups = setups_of(rt)?;
+    let mut fixture = Fixture::new(rt, &setups)?;
+    for line in rt.lines(rt.alloc()) {
+        let answer = make(&mut fixture, line?.as_str())?;
+        println!(rt; "{answer}")?;
+    }
+    Ok(())
 }

@@ -4,9 +4,9 @@ use std::io::{self, ErrorKind, Read, Write};
 
 /// Gives the bytes of a text one by one, and fails after `left` bytes.
 #[derive(Drop)]
-pub struct SlowInput<'a> {
-    pub text: &'a [u8],
-    pub left: u64,
+pub(crate) struct SlowInput<'a> {
+    pub(crate) text: &'a [u8],
+    pub(crate) left: u64,
 }
 
 impl Read for SlowInput<'_> {
@@ -29,11 +29,11 @@ impl Read for SlowInput<'_> {
 
 /// Takes bytes from each write, and fails after `left` writes.
 #[derive(Drop)]
-pub struct SlowOutput {
-    pub bytes: Vec<u8>,
-    pub left: u64,
+pub(crate) struct SlowOutput {
+    pub(crate) bytes: Vec<u8>,
+    pub(crate) left: u64,
     /// The most bytes that one write takes.
-    pub takes: usize,
+    pub(crate) takes: usize,
 }
 
 impl Write for SlowOutput {

@@ -2,9 +2,10 @@
 ghost use Rattle.std.specs.Prelude.{◌≤◌};
 
 use crate::answer::impossible;
+use crate::fault::CaseFault;
+use crate::texts::{push_numbers, with_numbers};
 use std::alloc::{AllocError, Global};
 use std::fs::File;
-use zh_case_text::{CaseFault, with_numbers};
 use zh_returns::Count;
 use zh_sheet::{ExhaustedReason, ListSeats, NoSheet, SheetFault, make_or_reason};
 use zh_totals::Totals;
@@ -65,7 +66,7 @@ fn exhausted(
 
 /// Why the search for the seats of a count's lists is exhausted, or the earlier fault, or `a sheet` if there is one. `mark`
 /// is held open during the calls.
-pub fn reason_of(
+pub(crate) fn reason_of(
     alloc: Global,
     count: &Count<'_>,
     mark: Option<File>,

@@ -1,0 +1,74 @@
+//! The divisor of a line, and the seats of a house.
+ghost use Rattle.std.specs.Prelude.{◌≤◌, ◌<◌, ◌^◌, All, Any, IsTrue, length};
+ghost use Rattle.zh_divisors.specs.Line.{IsMatrixLine};
+
+use crate::fault::CaseFault;
+use crate::texts::{numbers_in, push_number, push_numbers};
+use std::alloc::Global;
+use zh_divisors::{ShareFault, Weights, apportion, line};
+
+/// The largest divisor of a line, in millionths.
+const LARGEST: u64 = 1_000_000_000_000_000_000;
+
+/// Whether these are weights, at least one of which is positive.
+fn are_weights(numbers: &[u64]) -> bool
+    ensures some { IsTrue result → 1 ≤ length numbers.now }
+    ensures few { IsTrue result → length numbers.now ≤ 32 }
+    ensures small { IsTrue result → All (λ w. w ≤ 10 ^ 14) numbers.now }
+    ensures positive { IsTrue result → Any (λ w. 0 < w) numbers.now }
+{
+    (1..=32).contains(&numbers.len())
+        && numbers.iter().all(|w| *w <= 100_000_000_000_000)
+        && numbers.iter().any(|w| *w > 0)
+}
+
+/// Whether these cells form a line, the first of which has votes.
+fn is_line(votes: &[u64], others: &[u64]) -> bool
+    ensures { IsTrue result → IsMatrixLine votes.now others.now }
+{
+    (1..=32).contains(&votes.len())
+        && others.len() == votes.len()
+        && votes[0] > 0
+        && votes.iter().all(|v| *v <= 100_000_000_000_000)
+        && others.iter().all(|o| (1..=LARGEST).contains(o))
+}
+
+/// The divisor of a line, in millionths. The text has the line's seats, the largest divisor allowed, the votes of the cells, and
+/// the divisors of the lines that cross there.
+pub(crate) fn divisor(alloc: Global, text: &str) -> Result<String, CaseFault> {
+    let numbers = numbers_in(alloc, text)?;
+    let [target, most, cells @ ..] = numbers.as_slice() else {
+        return Err(CaseFault::Text("a line has seats and a largest divisor"));
+    };
+    let (votes, others) = cells.split_at(cells.len() / 2);
+    if !is_line(votes, others) || !(1..=400).contains(target) || *most == 0 {
+        return Err(CaseFault::Text("this is no line"));
+    }
+    let divisor = line(votes, others, *target as u32, *most);
+    Ok(format!(in alloc; "{divisor}")?)
+}
+
+/// The seats of a house and their divisor, as its numerator and its denominator; or `tied`. The text has the house's seats and
+/// the weights.
+pub(crate) fn shares(alloc: Global, text: &str) -> Result<String, CaseFault> {
+    let numbers = numbers_in(alloc, text)?;
+    let [house, weights @ ..] = numbers.as_slice() else {
+        return Err(CaseFault::Text("a house has seats"));
+    };
+    if !are_weights(weights) || !(1..=400).contains(house) {
+        return Err(CaseFault::Text("these are no weights"));
+    }
+    match apportion(alloc, &Weights::new(alloc, weights)?, *house as u32) {
+        Ok(shares) => {
+            let mut text = String::from_str(alloc, "seats")?;
+            for seats in shares.seats() {
+                push_number(&mut text, u64::from(*seats))?;
+            }
+            text.push_str("; divisor")?;
+            push_numbers(&mut text, &[shares.num(), u64::from(shares.den())])?;
+            Ok(text)
+        }
+        Err(ShareFault::Tied) => Ok(String::from_str(alloc, "tied")?),
+        Err(ShareFault::Memory) => Ok(String::from_str(alloc, "memory")?),
+    }
+}

@@ -1,0 +1,199 @@
+//! Questions: how many seats each row gets in each column.
+ghost use Rattle.std.specs.Prelude.{◌≡◌, ◌*◌, ◌^◌, ◌<◌, ◌≤◌, All, IsTrue, length};
+ghost use Rattle.zh_decided.specs.Ways.{AreBalanced};
+ghost use Rattle.zh_matrices.specs.Asked.{asked};
+ghost use Rattle.zh_matrices.specs.Question.{AreSeatTotals, EachColumnHasVotes, HasVotes, column_votes, question};
+
+use crate::answer::{found, impossible, ranges, with_divisors, with_seats};
+use crate::fault::CaseFault;
+use crate::fixture::Fixture;
+use crate::texts::{numbers_in, with_numbers};
+use std::alloc::{AllocError, Global};
+use zh_decided::{Decision, DecisionRoom, are_balanced, decide};
+use zh_lower::{Matrix, NoLower, find_or_reason, lot};
+use zh_matrices::Question;
+
+/// What answers the question.
+#[derive(Clone, Copy)]
+pub(crate) enum Whom {
+    /// The search. If it is exhausted, the decision gives the reason.
+    Searches,
+    /// The decision alone.
+    Decision,
+    /// The search, and at a tie the range of seats of each cell.
+    Lot,
+}
+
+/// The most votes of a cell.
+const MOST_VOTES: u64 = 100_000_000_000_000;
+
+/// Whether there are 1 to 32 totals, each of 1 to 400 seats.
+fn are_totals(totals: &[u32]) -> bool
+    ensures some { IsTrue result → 1 ≤ length totals.now }
+    ensures few { IsTrue result → length totals.now ≤ 32 }
+    ensures seats { IsTrue result → AreSeatTotals (length totals.now) totals.now }
+{
+    (1..=32).contains(&totals.len()) && totals.iter().all(|seats| (1..=400).contains(seats))
+}
+
+/// Whether there are this many cells, none with more than 10^14 votes.
+fn are_votes(cells: usize, votes: &[u64]) -> bool
+    ensures cells { IsTrue result → length votes.now ≡ cells }
+    ensures few { IsTrue result → All (λ v. v ≤ 10 ^ 14) votes.now }
+{
+    votes.len() == cells && votes.iter().all(|votes| *votes <= MOST_VOTES)
+}
+
+/// Whether a column has votes.
+fn column_has_votes(question: &Question<'_>, column: usize) -> bool
+    requires { column < question.now.columns }
+    ensures { IsTrue result → HasVotes question.now.rows (column_votes (asked question.now) column) }
+{
+    for row in 0..question.rows {
+        if question.votes[row * question.columns + column] > 0 {
+            return true;
+        }
+    }
+    false
+}
+
+/// Whether every column has votes.
+fn each_column_has_votes(question: &Question<'_>) -> bool
+    ensures { IsTrue result → EachColumnHasVotes (asked question.now) }
+{
+    for column in 0..question.columns {
+        if !column_has_votes(question, column) {
+            return false;
+        }
+    }
+    true
+}
+
+/// The result of a decision. If it has seats, they come with their divisors if the decision alone was asked; otherwise
+/// they come after `missed`, because the search did not find them.
+fn decided(alloc: Global, question: &Question<'_>, whom: Whom) -> Result<String, AllocError>
+    requires some_column { 1 ≤ question.now.columns }
+    requires totals { AreSeatTotals question.now.rows question.now.row_totals.now }
+    requires balanced { AreBalanced (asked question.now) }
+{
+    let mut room = DecisionRoom::new(alloc, question.rows, question.columns)?;
+    match decide(question, &mut room) {
+        Decision::Impossible(marked) => impossible(alloc, &marked, question.rows as u32),
+        Decision::NearlyTied(row, column, _) => {
+            with_numbers(alloc, "nearly tied", &[u64::from(row), u64::from(column)])
+        }
+        Decision::Beyond(_) => with_seats(alloc, "beyond", &room.findings.seats, question.columns),
+        Decision::Seats => match whom {
+            Whom::Decision => with_divisors(alloc, &room.findings, question.columns),
+            _ => with_seats(alloc, "missed", &room.findings.seats, question.columns),
+        },
+    }
+}
+
+/// The result of the search for votes with these totals, or of the lot if the search ends in a tie.
+fn searched(
+    alloc: Global,
+    whom: Whom,
+    matrix: &Matrix,
+    row_totals: &[u32],
+    column_totals: &[u32],
+) -> Result<String, AllocError>
+    requires some_column { 1 ≤ matrix.now.columns }
+    requires row_totals { AreSeatTotals matrix.now.rows row_totals.now }
+    requires column_totals { AreSeatTotals matrix.now.columns column_totals.now }
+    requires votes { EachColumnHasVotes (question matrix.now row_totals.now column_totals.now) }
+    requires balanced { AreBalanced (question matrix.now row_totals.now column_totals.now) }
+{
+    let question = matrix.question(row_totals, column_totals);
+    match (
+        find_or_reason(alloc, matrix, row_totals, column_totals),
+        whom,
+    ) {
+        (Err(NoLower::Memory), _) => Err(AllocError),
+        (Err(NoLower::Tied(tie)), Whom::Lot) => ranges(
+            alloc,
+            &lot(alloc, &question, &tie)?,
+            question.columns,
+        ),
+        (_, Whom::Lot) => String::from_str(alloc, "no tie"),
+        (Ok(lower), _) => found(alloc, &lower, question.rows as u32, question.columns as u32),
+        (Err(NoLower::NoVotes(row)), _) => with_numbers(alloc, "no votes", &[u64::from(row)]),
+        (Err(NoLower::Tied(tie)), _) => with_numbers(
+            alloc,
+            "tied",
+            &[u64::from(tie.row), u64::from(tie.column)],
+        ),
+        _ => decided(alloc, &question, whom),
+    }
+}
+
+/// The totals of rows or of columns.
+fn totals_in(alloc: Global, numbers: &[u64]) -> Result<Vec<u32>, AllocError> {
+    let mut totals = Vec::new(alloc);
+    for number in numbers {
+        totals.push((*number).min(401) as u32)?;
+    }
+    Ok(totals)
+}
+
+/// The answer to the question with these totals and votes, row by row.
+fn asked_of(
+    alloc: Global,
+    whom: Whom,
+    row_totals: &[u32],
+    column_totals: &[u32],
+    votes: &[u64],
+) -> Result<String, CaseFault> {
+    let (rows, columns) = (row_totals.len(), column_totals.len());
+    if !are_totals(row_totals) || !are_totals(column_totals) {
+        return Err(CaseFault::Text("there are 1 to 32 rows and columns, each with 1 to 400 seats"));
+    }
+    if !are_votes(rows * columns, votes) {
+        return Err(CaseFault::Text("each row has the votes of each column, at most 10^14"));
+    }
+    let matrix = Matrix::new(alloc, rows, columns, votes)?;
+    let question = matrix.question(row_totals, column_totals);
+    if !each_column_has_votes(&question) || !are_balanced(&question) {
+        return Err(CaseFault::Text(
+            "each column has votes, and rows and columns are to get as many seats",
+        ));
+    }
+    match whom {
+        Whom::Decision => Ok(decided(alloc, &question, whom)?),
+        _ => Ok(searched(alloc, whom, &matrix, row_totals, column_totals)?),
+    }
+}
+
+/// The answer to the question in these numbers: how many rows and columns there are, the seats of each row and of each column,
+/// and the votes, row by row.
+fn answer_to(alloc: Global, whom: Whom, numbers: &[u64]) -> Result<String, CaseFault> {
+    let [rows, columns, rest @ ..] = numbers else {
+        return Err(CaseFault::Text("a question has rows and columns"));
+    };
+    let (rows, columns) = (*rows as usize, *columns as usize);
+    let (Some(of_rows), Some(rest)) = (rest.get(..rows), rest.get(rows..)) else {
+        return Err(CaseFault::Text("a question has a total for each row"));
+    };
+    let (Some(of_columns), Some(votes)) = (rest.get(..columns), rest.get(columns..)) else {
+        return Err(CaseFault::Text("a question has a total for each column"));
+    };
+    let (of_rows, of_columns) = (totals_in(alloc, of_rows)?, totals_in(alloc, of_columns)?);
+    asked_of(alloc, whom, &of_rows, &of_columns, votes)
+}
+
+/// The answer to a question.
+///
+/// It is `seats`, row by row, with the divisors of the rows and of the columns in millionths; `no votes` with a row; `tied` with
+/// a row and a column; or, if the search is exhausted, the reason: `impossible` with the rows, `nearly tied` with a row and a
+/// column, or `beyond` or `missed` with the seats. The decision answers `seats` with its own divisors, or a reason other than
+/// `missed`. The lot answers `least` and `most` with seats, or `no tie`.
+pub(crate) fn ask(fixture: &Fixture<'_>, whom: Whom, numbers: &str) -> Result<String, CaseFault> {
+    let numbers = numbers_in(fixture.alloc, numbers)?;
+    let mark = fixture.refusing()?;
+    let answer = answer_to(fixture.alloc, whom, &numbers);
+    drop(mark);
+    match answer {
+        Err(CaseFault::Memory(_)) => Ok(String::from_str(fixture.alloc, "memory")?),
+        answer => answer,
+    }
+}

@@ -1,6 +1,0 @@
-mod counts;
-mod folders;
-mod halves;
-mod refused_memory;
-mod replies;
-mod shares;
