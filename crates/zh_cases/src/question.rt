@@ -10,7 +10,7 @@ use crate::fixture::Fixture;
 use crate::texts::{numbers_in, with_numbers};
 use std::alloc::{AllocError, Global};
 use zh_decided::{Decision, DecisionRoom, are_balanced, decide};
-use zh_lower::{Matrix, NoLower, find_or_reason, lot};
+use zh_lower::{LowerFault, Matrix, NoLower, find, find_or_reason, lot};
 use zh_matrices::Question;
 
 /// What answers the question.
@@ -90,10 +90,39 @@ fn decided(alloc: Global, question: &Question<'_>, whom: Whom) -> Result<String,
     }
 }
 
-/// The result of the search for votes with these totals, or of the lot if the search ends in a tie.
+/// The result of the search for votes with these totals.
 fn searched(
     alloc: Global,
-    whom: Whom,
+    matrix: &Matrix,
+    row_totals: &[u32],
+    column_totals: &[u32],
+) -> Result<String, AllocError>
+    requires few_rows { matrix.now.rows ≤ 32 }
+    requires some_column { 1 ≤ matrix.now.columns }
+    requires few_columns { matrix.now.columns ≤ 32 }
+    requires row_totals { AreSeatTotals matrix.now.rows row_totals.now }
+    requires column_totals { AreSeatTotals matrix.now.columns column_totals.now }
+    requires votes { EachColumnHasVotes (question matrix.now row_totals.now column_totals.now) }
+    requires balanced { AreBalanced (question matrix.now row_totals.now column_totals.now) }
+{
+    let (rows, columns) = (row_totals.len() as u32, column_totals.len() as u32);
+    match find(alloc, matrix, row_totals, column_totals) {
+        Ok(lower) => found(alloc, &lower, rows, columns),
+        Err(LowerFault::Memory) => Err(AllocError),
+        Err(LowerFault::NoVotes(row)) => with_numbers(alloc, "no votes", &[u64::from(row)]),
+        Err(LowerFault::Tied(row, column)) => {
+            with_numbers(alloc, "tied", &[u64::from(row), u64::from(column)])
+        }
+        Err(LowerFault::Exhausted) => {
+            let question = matrix.question(row_totals, column_totals);
+            decided(alloc, &question, Whom::Searches)
+        }
+    }
+}
+
+/// The fewest and the most seats of each cell, if the search ends in a tie.
+fn drawn(
+    alloc: Global,
     matrix: &Matrix,
     row_totals: &[u32],
     column_totals: &[u32],
@@ -102,28 +131,14 @@ fn searched(
     requires row_totals { AreSeatTotals matrix.now.rows row_totals.now }
     requires column_totals { AreSeatTotals matrix.now.columns column_totals.now }
     requires votes { EachColumnHasVotes (question matrix.now row_totals.now column_totals.now) }
-    requires balanced { AreBalanced (question matrix.now row_totals.now column_totals.now) }
 {
-    let question = matrix.question(row_totals, column_totals);
-    match (
-        find_or_reason(alloc, matrix, row_totals, column_totals),
-        whom,
-    ) {
-        (Err(NoLower::Memory), _) => Err(AllocError),
-        (Err(NoLower::Tied(tie)), Whom::Lot) => ranges(
-            alloc,
-            &lot(alloc, &question, &tie)?,
-            question.columns,
-        ),
-        (_, Whom::Lot) => String::from_str(alloc, "no tie"),
-        (Ok(lower), _) => found(alloc, &lower, question.rows as u32, question.columns as u32),
-        (Err(NoLower::NoVotes(row)), _) => with_numbers(alloc, "no votes", &[u64::from(row)]),
-        (Err(NoLower::Tied(tie)), _) => with_numbers(
-            alloc,
-            "tied",
-            &[u64::from(tie.row), u64::from(tie.column)],
-        ),
-        _ => decided(alloc, &question, whom),
+    match find_or_reason(alloc, matrix, row_totals, column_totals) {
+        Err(NoLower::Tied(tie)) => {
+            let question = matrix.question(row_totals, column_totals);
+            ranges(alloc, &lot(alloc, &question, &tie)?, question.columns)
+        }
+        Err(NoLower::Memory) => Err(AllocError),
+        _ => String::from_str(alloc, "no tie"),
     }
 }
 
@@ -159,8 +174,9 @@ fn asked_of(
         ));
     }
     match whom {
+        Whom::Searches => Ok(searched(alloc, &matrix, row_totals, column_totals)?),
         Whom::Decision => Ok(decided(alloc, &question, whom)?),
-        _ => Ok(searched(alloc, whom, &matrix, row_totals, column_totals)?),
+        Whom::Lot => Ok(drawn(alloc, &matrix, row_totals, column_totals)?),
     }
 }
 
