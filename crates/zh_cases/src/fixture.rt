@@ -4,15 +4,15 @@ use crate::disk::{Device, NEVER, device, disk_of, image_of};
 use crate::fault::CaseFault;
 use crate::reason::reason_of;
 use crate::streams::{SlowInput, SlowOutput};
-use crate::texts::{lines_in, number, numbers_in, push_lines, with_numbers};
+use crate::texts::{lines_in, number, numbers_in, push_lines};
 use hex::decode;
-use std::alloc::Global;
+use std::alloc::{AllocError, Global};
 use std::fs::{self, File};
-use zh_commands::write_reply;
+use zh_commands::{Reply, write_reply};
 use zh_disk::{DISK_LENGTH, MemoryDisk, Stop};
 use zh_districts::Setup;
 use zh_film::Film;
-use zh_office::{FormatFault, NotedReader, Office, OpenFault};
+use zh_office::{FormatFault, NotedReader, Office, OpenFault, ServeFault};
 use zh_returns::{Count, Format, PAYLOAD_LENGTH, decode_command};
 
 /// How many reads an office is allowed for a line.
@@ -69,9 +69,9 @@ impl<'s> Fixture<'s> {
     }
 
     /// Takes the set-up with this number, counted from 0, and closes the office.
-    pub(crate) fn take_setup(&mut self, number: usize) -> Result<(), CaseFault> {
+    pub(crate) fn take_setup(&mut self, word: &str) -> Result<(), CaseFault> {
         self.office = None;
-        match self.setups.get(number) {
+        match self.setups.get(number(word)? as usize) {
             Some(setup) => {
                 self.setup = setup;
                 Ok(())
@@ -161,8 +161,9 @@ impl<'s> Fixture<'s> {
         Ok(())
     }
 
-    /// A power failure, which also closes the office. `how` says what it leaves of the bytes that were not synced.
-    pub(crate) fn stop(&mut self, how: Stop) -> Result<(), CaseFault> {
+    /// A power failure, which also closes the office. The word says what it leaves of the bytes that were not synced.
+    pub(crate) fn stop(&mut self, word: &str) -> Result<(), CaseFault> {
+        let how = stop_of(word)?;
         let mut disk = self.take_memory()?;
         disk.stop(how);
         self.take_over(disk);
@@ -267,28 +268,36 @@ impl<'s> Fixture<'s> {
     pub(crate) fn serve(&mut self, given: &str) -> Result<String, CaseFault> {
         let (name, limits) = given.split_once(' ').unwrap_or((given, ""));
         let text = fs::read(self.rt, name)?;
-        let limits = numbers_in(self.alloc, limits)?;
-        let [reads, left_in, left_out, takes] = limits.as_slice() else {
-            return Err(CaseFault::Text("a text is served with four limits"));
-        };
+        match numbers_in(self.alloc, limits)?.as_slice() {
+            [reads, left_in, left_out, takes] => {
+                let input = SlowInput {
+                    text: &text,
+                    left: *left_in,
+                };
+                let output = SlowOutput {
+                    bytes: Vec::new(self.alloc),
+                    left: *left_out,
+                    takes: *takes as usize,
+                };
+                self.serve_on(input, output, *reads)
+            }
+            _ => Err(CaseFault::Text("a text is served with four limits")),
+        }
+    }
+
+    fn serve_on(
+        &mut self,
+        mut input: SlowInput<'_>,
+        mut output: SlowOutput,
+        reads: u64,
+    ) -> Result<String, CaseFault> {
         let Some(office) = &mut self.office else {
             return self.closed();
         };
-        let mut input = SlowInput {
-            text: &text,
-            left: *left_in,
-        };
-        let mut out = SlowOutput {
-            bytes: Vec::new(self.alloc),
-            left: *left_out,
-            takes: *takes as usize,
-        };
         let disk = present(&mut self.device)?;
-        let mut answer = match office.serve(&mut input, &mut out, disk, &mut Film::new(), *reads) {
-            Ok(lines) => format!(in self.alloc; "{lines}")?,
-            Err(fault) => format!(in self.alloc; "{fault}")?,
-        };
-        push_lines(&mut answer, "; ", &out.bytes)?;
+        let served = office.serve(&mut input, &mut output, disk, &mut Film::new(), reads);
+        let mut answer = end_of(self.alloc, served)?;
+        push_lines(&mut answer, "; ", &output.bytes)?;
         Ok(answer)
     }
 
@@ -296,20 +305,20 @@ impl<'s> Fixture<'s> {
     /// has no desk. It also says how many bytes were not read.
     pub(crate) fn load(&mut self, given: &str) -> Result<String, CaseFault> {
         let (name, left) = given.split_once(' ').unwrap_or((given, ""));
-        let text = fs::read(self.rt, name)?;
         let left = number(left)?;
+        let text = fs::read(self.rt, name)?;
+        self.load_from(SlowInput { text: &text, left })
+    }
+
+    fn load_from(&mut self, mut input: SlowInput<'_>) -> Result<String, CaseFault> {
         let mark = self.refusing()?;
         let Some(office) = &mut self.office else {
             return self.closed();
         };
         let disk = present(&mut self.device)?;
-        let mut input = SlowInput { text: &text, left };
         let reply = office.load(disk, &mut NotedReader::new(&mut input));
         drop(mark);
-        let mut line = [0; 64];
-        let length = write_reply(0, &reply, &mut line);
-        let answer = lines_in(self.alloc, line.get(2..length).unwrap_or(&[]))?;
-        with_left(self.alloc, answer.as_str(), input.text.len() as u64)
+        loaded(self.alloc, &reply, input.text.len())
     }
 
     /// The office's export.
@@ -331,15 +340,36 @@ impl<'s> Fixture<'s> {
     pub(crate) fn reason(&self) -> Result<String, CaseFault> {
         let mark = self.refusing()?;
         match &self.office {
-            Some(office) => reason_of(self.alloc, office.count(), mark),
+            Some(office) => reason_of(self.alloc, office.totals(), mark),
             None => self.closed(),
         }
     }
 }
 
-/// An answer, and how many bytes were not read.
-fn with_left(alloc: Global, answer: &str, left: u64) -> Result<String, CaseFault> {
-    Ok(format!(in alloc; "{answer}; {left} left")?)
+/// How serving ended: after how many lines, or with which fault.
+fn end_of(alloc: Global, served: Result<u64, ServeFault>) -> Result<String, AllocError> {
+    match served {
+        Ok(lines) => format!(in alloc; "{lines}"),
+        Err(fault) => format!(in alloc; "{fault}"),
+    }
+}
+
+/// A reply without its desk, and how many bytes were not read.
+fn loaded(alloc: Global, reply: &Reply, left: usize) -> Result<String, CaseFault> {
+    let mut line = [0; 64];
+    let length = write_reply(0, reply, &mut line);
+    let mut answer = lines_in(alloc, line.get(2..length).unwrap_or(&[]))?;
+    answer.push_str(format!(in alloc; "; {left} left")?.as_str())?;
+    Ok(answer)
+}
+
+/// What a power failure leaves of the bytes that were not synced: `keep`, `old`, or a byte.
+fn stop_of(word: &str) -> Result<Stop, CaseFault> {
+    match word {
+        "keep" => Ok(Stop::Keep),
+        "old" => Ok(Stop::Old),
+        _ => Ok(Stop::Fill(number(word)?.min(255) as u8)),
+    }
 }
 
 fn encode(count: &Count<'_>, into: &mut [u8]) {

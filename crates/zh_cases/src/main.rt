@@ -26,7 +26,7 @@ use zh_districts::Setup;
 use zh_setups::{read_setup, rehearsal};
 
 fn main(rt: HostRuntime) -> ExitCode {
-    match make_turns(&rt) {
+    match run(&rt) {
         Ok(()) => ExitCode::SUCCESS,
         Err(fault) => {
             let _ = eprintln!(rt; "{fault}");
@@ -56,12 +56,25 @@ fn setups_of(rt: &HostRuntime) -> Result<Vec<Setup>, CaseFault> {
 }
 
 /// Makes the turns of standard input.
-fn make_turns(rt: &HostRuntime) -> Result<(), CaseFault> {
-    let setups = setups_of(rt)?;
-    let mut fixture = Fixture::new(rt, &setups)?;
+fn make_turns(rt: &HostRuntime, fixture: &mut Fixture<'_>) -> Result<(), CaseFault> {
     for line in rt.lines(rt.alloc()) {
-        let answer = make(&mut fixture, line?.as_str())?;
-        println!(rt; "{answer}")?;
+        make_turn(rt, fixture, line?.as_str())?;
     }
     Ok(())
+}
+
+/// Makes a turn and prints its answer.
+fn make_turn(rt: &HostRuntime, fixture: &mut Fixture<'_>, turn: &str) -> Result<(), CaseFault> {
+    let answer = make(fixture, turn)?;
+    println!(rt; "{answer}")?;
+    Ok(())
+}
+
+/// Makes the turns of standard input with these set-ups.
+fn make_with(rt: &HostRuntime, setups: &[Setup]) -> Result<(), CaseFault> {
+    make_turns(rt, &mut Fixture::new(rt, setups)?)
+}
+
+fn run(rt: &HostRuntime) -> Result<(), CaseFault> {
+    make_with(rt, &setups_of(rt)?)
 }

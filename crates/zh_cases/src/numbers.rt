@@ -4,8 +4,8 @@ ghost use Rattle.zh_divisors.specs.Line.{IsMatrixLine};
 
 use crate::fault::CaseFault;
 use crate::texts::{numbers_in, push_number, push_numbers};
-use std::alloc::Global;
-use zh_divisors::{ShareFault, Weights, apportion, line};
+use std::alloc::{AllocError, Global};
+use zh_divisors::{ShareFault, Shares, Weights, apportion, line};
 
 /// The largest divisor of a line, in millionths.
 const LARGEST: u64 = 1_000_000_000_000_000_000;
@@ -59,16 +59,19 @@ pub(crate) fn shares(alloc: Global, text: &str) -> Result<String, CaseFault> {
         return Err(CaseFault::Text("these are no weights"));
     }
     match apportion(alloc, &Weights::new(alloc, weights)?, *house as u32) {
-        Ok(shares) => {
-            let mut text = String::from_str(alloc, "seats")?;
-            for seats in shares.seats() {
-                push_number(&mut text, u64::from(*seats))?;
-            }
-            text.push_str("; divisor")?;
-            push_numbers(&mut text, &[shares.num(), u64::from(shares.den())])?;
-            Ok(text)
-        }
+        Ok(shares) => Ok(spelled(alloc, &shares)?),
         Err(ShareFault::Tied) => Ok(String::from_str(alloc, "tied")?),
         Err(ShareFault::Memory) => Ok(String::from_str(alloc, "memory")?),
     }
+}
+
+/// The seats of shares, and their divisor.
+fn spelled(alloc: Global, shares: &Shares) -> Result<String, AllocError> {
+    let mut text = String::from_str(alloc, "seats")?;
+    for seats in shares.seats() {
+        push_number(&mut text, u64::from(*seats))?;
+    }
+    text.push_str("; divisor")?;
+    push_numbers(&mut text, &[shares.num(), u64::from(shares.den())])?;
+    Ok(text)
 }

@@ -3,17 +3,11 @@ ghost use Rattle.std.specs.Prelude.{◌≤◌};
 
 use crate::answer::impossible;
 use crate::fault::CaseFault;
-use crate::texts::{push_numbers, with_numbers};
+use crate::texts::with_numbers;
 use std::alloc::{AllocError, Global};
 use std::fs::File;
-use zh_returns::Count;
 use zh_sheet::{ExhaustedReason, ListSeats, NoSheet, SheetFault, make_or_reason};
 use zh_totals::Totals;
-
-/// The answer if memory was refused.
-fn memory(alloc: Global) -> Result<String, CaseFault> {
-    Ok(String::from_str(alloc, "memory")?)
-}
 
 /// Appends the lists of a constituency that have seats, each as its constituency, its group and its seats.
 fn push_lists(
@@ -65,25 +59,19 @@ fn exhausted(
 }
 
 /// Why the search for the seats of a count's lists is exhausted, or the earlier fault, or `a sheet` if there is one. `mark`
-/// is held open during the calls.
+/// is held open during the call.
 pub(crate) fn reason_of(
     alloc: Global,
-    count: &Count<'_>,
+    totals: &Totals<'_>,
     mark: Option<File>,
 ) -> Result<String, CaseFault> {
-    let Ok(totals) = Totals::of(alloc, count) else {
-        drop(mark);
-        return memory(alloc);
-    };
-    let made = make_or_reason(alloc, &totals);
+    let made = make_or_reason(alloc, totals);
     drop(mark);
     match made {
         Ok(_) => Ok(String::from_str(alloc, "a sheet")?),
-        Err(NoSheet::Exhausted(reason)) => Ok(exhausted(
-            alloc,
-            &reason,
-            totals.setup().constituencies(),
-        )?),
+        Err(NoSheet::Exhausted(reason)) => {
+            Ok(exhausted(alloc, &reason, totals.setup().constituencies())?)
+        }
         Err(none) => {
             let fault = SheetFault::from(none);
             Ok(format!(in alloc; "{fault}")?)

@@ -59,16 +59,11 @@ fn answer_of(
     Ok(answer)
 }
 
-/// Runs the program on `INPUT ARGUMENT ..`, where INPUT is a file.
-pub(crate) fn run_program(rt: &HostRuntime, text: &str) -> Result<String, CaseFault> {
+/// Runs the program with these arguments and this input.
+fn run_on_files(rt: &HostRuntime, arguments: &[String], input: &[u8]) -> Result<String, CaseFault> {
     let alloc = rt.alloc();
-    let words = words_in(alloc, text)?;
-    let [name, arguments @ ..] = words.as_slice() else {
-        return Err(CaseFault::Text("a run has an input"));
-    };
-    let input = input_in(rt, name.as_str())?;
     let mut world = World {
-        input: input.as_slice(),
+        input,
         output: Vec::new(alloc),
         faults: Vec::new(alloc),
         remark: Remark::Whole,
@@ -76,6 +71,14 @@ pub(crate) fn run_program(rt: &HostRuntime, text: &str) -> Result<String, CaseFa
     };
     let status = program(alloc, arguments, AnyContent, &mut world).result;
     answer_of(alloc, status, "; ", &world.output, &world.faults)
+}
+
+/// Runs the program on `INPUT ARGUMENT ..`, where INPUT is a file.
+pub(crate) fn run_program(rt: &HostRuntime, text: &str) -> Result<String, CaseFault> {
+    match words_in(rt.alloc(), text)?.as_slice() {
+        [name, arguments @ ..] => run_on_files(rt, arguments, &input_in(rt, name.as_str())?),
+        [] => Err(CaseFault::Text("a run has an input")),
+    }
 }
 
 /// The path of the case's disk. There is no other disk.
@@ -97,13 +100,28 @@ fn path_after<'t>(arguments: &'t [String], name: &str) -> &'t str {
     ""
 }
 
+/// How many calls at paths, reads of each text, and calls of the disk's file succeed before the others fail, and how many bytes
+/// of the input and of the output.
+#[derive(Clone, Copy)]
+struct Limits {
+    files: u64,
+    reads: u64,
+    calls: u64,
+    input: u64,
+    output: u64,
+}
+
 /// A folder in memory with the files that the arguments name, except those that can't be read, and the case's disk.
 fn folder_of(
     rt: &HostRuntime,
+    limits: Limits,
     arguments: &[String],
     image: Vec<u8>,
 ) -> Result<MemoryFolder<OneDisk>, CaseFault> {
     let mut folder = MemoryFolder::new(rt.alloc());
+    folder.calls = limits.files;
+    folder.reads = limits.reads;
+    folder.file_calls = limits.calls;
     for name in ["--setup", "--csv", "--sheet", "--held"] {
         let path = path_after(arguments, name);
         if let Ok(bytes) = fs::read(rt, path) {
@@ -149,30 +167,42 @@ fn run_on(
     answer_of(alloc, result, ", ", &world.output.bytes, &world.faults)
 }
 
-/// Runs the program within limits, `FILES READS CALLS INPUT OUTPUT FILE ARGUMENT ..`: how many calls at paths, reads of each text,
-/// and calls of the disk's file succeed before the others fail, and how many bytes of the input and of the output. The files that
-/// its arguments name are read from the folder. Its disk, at the path `disk`, is the case's disk; the disk that it hands over
-/// replaces it.
-pub(crate) fn run_within(fixture: &mut Fixture<'_>, text: &str) -> Result<String, CaseFault> {
-    let rt = fixture.rt;
-    let alloc = rt.alloc();
-    let words = words_in(alloc, text)?;
-    let [files, reads, calls, left_in, left_out, name, arguments @ ..] = words.as_slice() else {
-        return Err(CaseFault::Text("a run has five limits and an input"));
-    };
-    let input = input_in(rt, name.as_str())?;
-    let mut folder = folder_of(rt, arguments, fixture.image()?)?;
-    folder.calls = number(files.as_str())?;
-    folder.reads = number(reads.as_str())?;
-    folder.file_calls = number(calls.as_str())?;
+/// Runs the program within these limits. The files that its arguments name are read from the folder. Its disk, at the path
+/// `disk`, is the case's disk; the disk that it hands over replaces it.
+fn run_limited(
+    fixture: &mut Fixture<'_>,
+    limits: Limits,
+    arguments: &[String],
+    input: &[u8],
+) -> Result<String, CaseFault> {
+    let alloc = fixture.alloc;
+    let folder = folder_of(fixture.rt, limits, arguments, fixture.image()?)?;
     let input = SlowInput {
-        text: &input,
-        left: number(left_in.as_str())?,
+        text: input,
+        left: limits.input,
     };
     let output = SlowOutput {
         bytes: Vec::new(alloc),
-        left: number(left_out.as_str())?,
+        left: limits.output,
         takes: 1,
     };
     run_on(alloc, fixture, folder, arguments, input, output)
+}
+
+/// Runs the program within limits, `FILES READS CALLS INPUT OUTPUT FILE ARGUMENT ..`, where FILE is its input.
+pub(crate) fn run_within(fixture: &mut Fixture<'_>, text: &str) -> Result<String, CaseFault> {
+    let rt = fixture.rt;
+    match words_in(rt.alloc(), text)?.as_slice() {
+        [files, reads, calls, input, output, name, arguments @ ..] => {
+            let limits = Limits {
+                files: number(files.as_str())?,
+                reads: number(reads.as_str())?,
+                calls: number(calls.as_str())?,
+                input: number(input.as_str())?,
+                output: number(output.as_str())?,
+            };
+            run_limited(fixture, limits, arguments, &input_in(rt, name.as_str())?)
+        }
+        _ => Err(CaseFault::Text("a run has five limits and an input")),
+    }
 }

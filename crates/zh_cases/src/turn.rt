@@ -5,8 +5,6 @@ use crate::fixture::Fixture;
 use crate::numbers::{divisor, shares};
 use crate::question::{Whom, ask};
 use crate::runs::{run_program, run_within};
-use crate::texts::number;
-use zh_disk::Stop;
 
 /// The first word of a text, and the rest after a space.
 fn parted(text: &str) -> (&str, &str) {
@@ -43,34 +41,34 @@ fn answer(fixture: &mut Fixture<'_>, turn: &str) -> Result<String, CaseFault> {
         "shares" => shares(fixture.alloc, rest),
         "zhcount" => run_program(fixture.rt, rest),
         "within" => run_within(fixture, rest),
-        _ => Ok(String::from_str(fixture.alloc, change(fixture, word, rest)?)?),
+        _ => Ok(String::from_str(fixture.alloc, word_of(fixture, word, rest)?)?),
     }
 }
 
 /// Makes a turn on the office or on the disk. Its answer is a word.
-fn change(fixture: &mut Fixture<'_>, word: &str, rest: &str) -> Result<&'static str, CaseFault> {
+fn word_of(fixture: &mut Fixture<'_>, word: &str, rest: &str) -> Result<&'static str, CaseFault> {
     match word {
-        "format" => return fixture.format(),
-        "open" => return fixture.open(),
-        "damage" => return fixture.damage(rest),
-        "setup" => fixture.take_setup(number(rest)? as usize)?,
-        "zeros" => fixture.take_zeros()?,
-        "disk" => fixture.take_file(rest)?,
-        "image" => fixture.save_image(rest)?,
-        "count" => fixture.save_count(rest)?,
-        "mark" => fixture.mark()?,
-        "back" => fixture.back()?,
-        "stop" => fixture.stop(stop_of(rest)?)?,
-        _ => fixture.fail(word, rest)?,
+        "format" => fixture.format(),
+        "open" => fixture.open(),
+        "damage" => fixture.damage(rest),
+        _ => {
+            change(fixture, word, rest)?;
+            Ok("ok")
+        }
     }
-    Ok("ok")
 }
 
-/// What a power failure leaves of the bytes that were not synced: `keep`, `old`, or a byte.
-fn stop_of(word: &str) -> Result<Stop, CaseFault> {
+/// Makes a turn that changes what the case works on, or keeps a part of it.
+fn change(fixture: &mut Fixture<'_>, word: &str, rest: &str) -> Result<(), CaseFault> {
     match word {
-        "keep" => Ok(Stop::Keep),
-        "old" => Ok(Stop::Old),
-        _ => Ok(Stop::Fill(number(word)?.min(255) as u8)),
+        "setup" => fixture.take_setup(rest),
+        "zeros" => fixture.take_zeros(),
+        "disk" => fixture.take_file(rest),
+        "image" => fixture.save_image(rest),
+        "count" => fixture.save_count(rest),
+        "mark" => fixture.mark(),
+        "back" => fixture.back(),
+        "stop" => fixture.stop(rest),
+        _ => fixture.fail(word, rest),
     }
 }
