@@ -4,6 +4,8 @@ import os
 import re
 import subprocess
 import tempfile
+import time
+from collections import namedtuple
 from functools import lru_cache
 from pathlib import Path
 
@@ -11,6 +13,8 @@ BENCH = Path(__file__).resolve().parent
 LINES = 32
 Numbers, Divisors, Cells = ctypes.c_uint32 * LINES, ctypes.c_uint64 * LINES, ctypes.c_uint32 * LINES**2
 FUNCTIONS = {"search": "search", "lot": "search", "question": "find", "decision": "decide"}
+# What is said, how many half-steps the search made, whether seats of a question are by the decision, and the processor's seconds.
+Answer = namedtuple("Answer", "said half_steps is_decided worked")
 
 
 class Question(ctypes.Structure):
@@ -23,8 +27,9 @@ class Outcome(ctypes.Structure):
 
 
 def compiled(folder, name, *flags):
-    """The program or library of a file of bench/, which is compiled into this folder."""
-    words = [os.environ.get("CC") or "cc", "-O2", "-std=gnu11", *flags, BENCH / f"{name}.c", "-o", folder / name]
+    """The program or library of a file of bench/, which is compiled into this folder. Where its loops begin would else be chance, which
+    changes its time by a fifth."""
+    words = [os.environ.get("CC") or "cc", "-O2", "-falign-loops=32", "-std=gnu11", *flags, BENCH / f"{name}.c", "-o", folder / name]
     subprocess.run(words, check=True)
     return folder / name
 
@@ -40,28 +45,34 @@ def listed(word, cells, columns):
     return "; ".join([word, *(" ".join(map(str, row)) for row in rows)])
 
 
-def answer(ask, lines):
-    """What C answers to a turn of the cases with a question: a line of rows, of columns, and of the votes of each row. A search also has
-    the number of its half-steps."""
-    rows, columns, *votes = (tuple(map(int, it.split()[1:])) for it in lines)
-    q, o = Question((len(rows), len(columns)), sum(votes, ()), (rows, columns)), Outcome()
-    library()[FUNCTIONS[ask]](ctypes.byref(q), ctypes.byref(o))
-    width, cells = len(columns), len(rows) * len(columns)
+def worded(ask, rows, columns, o):
+    """An outcome in the words of the cases. That of a search also has the number of its half-steps."""
+    cells = rows * columns
     seats, others = o.seats[:cells], o.others[:cells]
     if ask == "lot":
-        return f"{listed('least', seats, width)}; {listed('most', others, width)}"
-    of_rows, of_columns = (" ".join(map(str, of_side[:n])) for of_side, n in zip(o.divisors, q.lines))
+        return f"{listed('least', seats, columns)}; {listed('most', others, columns)}"
+    of_rows, of_columns = (" ".join(map(str, of_side[:n])) for of_side, n in zip(o.divisors, (rows, columns)))
     other = next((k for k in range(cells) if seats[k] != others[k]), 0)
     said = [  # by `enum answer`
-        f"{listed('seats', seats, width)}; rows {of_rows}; columns {of_columns}",
+        f"{listed('seats', seats, columns)}; rows {of_rows}; columns {of_columns}",
         f"no votes {o.row + 1}",
         f"tied {o.row + 1} {o.column + 1}",
         "exhausted",
-        " ".join(["impossible", *(str(d + 1) for d in range(len(rows)) if o.too_few[d])]),
-        f"nearly tied {other // width + 1} {other % width + 1}",
-        listed("beyond", seats, width),
+        " ".join(["impossible", *(str(d + 1) for d in range(rows) if o.too_few[d])]),
+        f"nearly tied {other // columns + 1} {other % columns + 1}",
+        listed("beyond", seats, columns),
     ][o.answer]
     return f"{said}; half-steps {o.half_steps}" if ask == "search" else said
+
+
+def answer(ask, of_rows, of_columns, votes):
+    """What C answers to such a turn of the cases, with these totals of rows and of columns, and these votes, row by row."""
+    rows, columns = len(of_rows), len(of_columns)
+    question, outcome = Question((rows, columns), tuple(votes), (tuple(of_rows), tuple(of_columns))), Outcome()
+    function, start = library()[FUNCTIONS[ask]], time.process_time()
+    is_decided = function(ctypes.byref(question), ctypes.byref(outcome))
+    worked = time.process_time() - start
+    return Answer(worded(ask, rows, columns, outcome), outcome.half_steps, is_decided, worked)
 
 
 def wrong(path):
@@ -71,6 +82,8 @@ def wrong(path):
     turns = re.findall(r"^((search|question|decision|lot) (.*) -> (.*))$", text, re.M)
     yield from [] if turns else [f"{path.name} asks nothing"]
     for turn, ask, asked, wanted in turns:
-        found = answer(ask, files[asked].splitlines() if asked in files else asked.split(", "))
+        lines = files[asked].splitlines() if asked in files else asked.split(", ")
+        of_rows, of_columns, *votes = ([*map(int, line.split()[1:])] for line in lines)
+        found = answer(ask, of_rows, of_columns, sum(votes, [])).said
         if found != wanted:
             yield f"{path.name}: {turn}: {found}"

@@ -50,7 +50,7 @@ def main(count):
     for row_totals, column_totals, votes in questions(random.Random(1)):
         named = (["rows", *row_totals], ["columns", *column_totals], *(["votes", *row] for row in votes))
         lines = tuple(" ".join(map(str, it)) for it in named)
-        if lines not in written and answer("search", lines).startswith("tied"):
+        if lines not in written and answer("search", row_totals, column_totals, sum(votes, [])).said.startswith("tied"):
             cells = [*zip(*drawn(row_totals, column_totals, sum(votes, [])))]
             least, most = (listed(word, [of(it) for it in cells], len(column_totals)) for word, of in (("least", min), ("most", max)))
             print(f"lot {', '.join(lines)} -> {least}; {most}")
