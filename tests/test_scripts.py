@@ -49,10 +49,10 @@ AT_WORK = "until grep -q ' of ' log 2> /dev/null; do sleep 0.1; done"
 def sh(tmp_path):
     """Runs commands in the small copy: what they say, what they complain of, and their status."""
     top = tmp_path / "a checkout"
-    for crate in ("zh_bench", "zh_low", "zhcount"):
+    for crate in ("zh_cases", "zh_low", "zhcount"):
         (top / "crates" / crate / "src").mkdir(parents=True)
         (top / "crates" / crate / "src/lib.rt").write_text(f"text of {crate}\n")
-    (top / "crates.txt").write_text("zh_low: thiserror\nzhcount: zh_low\nzh_bench: zhcount\n")
+    (top / "crates.txt").write_text("zh_low: thiserror\nzhcount: zh_low\nzh_cases: zhcount\n")
     for it in ("scripts", "tests/edited"):
         shutil.copytree(TOP / it, top / it)
     shutil.copy(TOP / "Makefile", top)
@@ -114,7 +114,7 @@ def test_a_slow_input_is_whole(sh, command, answers):
     (CHANGE, UNPROVED),
     (f"{CHANGE}; {RUN}; {CHANGE_BACK}", PROVED),
     ("touch -d '+1 hour' $LOW", PROVED),
-    ("echo changed text > crates/zh_bench/src/lib.rt", PROVED),  # zhcount does not use it
+    ("echo changed text > crates/zh_cases/src/lib.rt", PROVED),  # zhcount does not use it
     ("mkdir crates/zh_low/proofs; touch crates/zh_low/proofs/New.antt", UNPROVED),
     ("sed -i 's/^zh_low: /&itoa /' crates.txt", UNPROVED),  # another library
     ("sed -i 's/kit of/other &/' bin/rt", UNPROVED),  # another toolchain
@@ -127,7 +127,7 @@ def test_only_the_program_of_these_sources_is_called_proved(built, change, answe
     assert said == answer and (errors == "") == (answer == PROVED)
 
 
-@pytest.mark.parametrize("name", ["zhcount", "zh_bench"])
+@pytest.mark.parametrize("name", ["zhcount", "zh_cases"])
 def test_what_is_proved_is_not_proved_again(built, name):
     built(f"scripts/build {name}")
     assert built(f"scripts/build {name}")[0] == f"these sources are proved; the program is crates/{name}/out/{name}\n"
