@@ -60,9 +60,8 @@ quick:
 	@scripts/quick $(CASES)
 
 cases:
-	@cd crates/zh_cases && rt run > /dev/null
-	@folder=$$(mktemp -d) && cp crates/zh_cases/data/* "$$folder" && cd "$$folder" && \
-	"$(CURDIR)/crates/zh_cases/out/zh_cases" $(CASES); status=$$?; rm -r "$$folder"; exit $$status
+	@scripts/build zh_cases
+	@scripts/cases $(CASES)
 
 refused:
 	@$(call pytest,all) tests/test_refused.py
