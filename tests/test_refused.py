@@ -1,42 +1,36 @@
 """Each allocation of some turns and tests is refused in turn (tests/refuse.c): memory has to be reported as refused, unless the call did
 without; nothing may have changed, and the next call has to work. This runs the programs that rt ci has built."""
 import itertools
-import re
-import shutil
 
 import pytest
 
+from cases import lines_of, run
 from places import CASES, PROGRAM_OF_CASES, TOP
 from refusing import Preloaded
 
 PROGRAM_OF_TESTS = TOP / "crates/zh_crate_tests/out/zh_crate_tests_tests"
 TURNS = 16
-REPORT = re.compile(r"line (\d+): '.*(?:memory|device)'")
 
 
-def faults_of_turns(name, room, library):
+def faults_of_turns(path, room, library):
     """What is wrong where each allocation of each turn `refuse` of a file of cases is refused (docs/CASES.md). A run refuses those of one
     number to every sixteenth of these turns, so that an office that was opened anew serves between. Each turn has to report one."""
-    shutil.copytree(CASES, room, dirs_exist_ok=True)
-    cases, found, reported = Preloaded(library, room), [], set()
-    whole = cases.run(PROGRAM_OF_CASES, name, WITHIN="refuse")
-    assert (whole.status, whole.said) == (0, "")
+    preloaded, found, reported = Preloaded(library, room), [], set()
+    assert run(path, PROGRAM_OF_CASES, room, preloaded.environment(WITHIN="refuse"))[2:] == ("", [])
     for turn in range(TURNS):
         for number in itertools.count(1):
-            it = cases.run(PROGRAM_OF_CASES, name, REFUSE=number, TURN=turn, TURNS=TURNS, WITHIN="refuse")
-            if not it.is_reached:
+            it = run(path, PROGRAM_OF_CASES, room, preloaded.environment(REFUSE=number, TURN=turn, TURNS=TURNS, WITHIN="refuse"))
+            if not preloaded.reached.exists():
                 break
-            lines = [REPORT.fullmatch(line) for line in it.said.splitlines()]
-            if (it.status, it.out) != (0, whole.out) or not all(lines):
-                found.append(f"allocation {number}: {it.said}")
-            reported |= {int(line[1]) for line in lines if line}
-    wanted = {number for number, line in enumerate((room / name).read_text().split("\n"), 1) if re.match(" *refuse ", line)}
-    return found + [f"{name}:{it}: no allocation was refused" for it in sorted(wanted - reported)]
+            found += [f"allocation {number}: {it.fault}"] if it.fault else []
+            reported |= {line for line, _ in it.reports}
+    wanted = {it.number for it in lines_of(path.read_text()) if it.text.startswith("refuse ")}
+    return found + [f"{path.name}:{it}: no allocation was refused" for it in sorted(wanted - reported)]
 
 
 @pytest.mark.parametrize("path", sorted(CASES.glob("refused_*.case")), ids=lambda it: it.stem)
 def test_turns(path, tmp_path, library):
-    assert not faults_of_turns(path.name, tmp_path, library)
+    assert not faults_of_turns(path, tmp_path, library)
 
 
 @pytest.mark.parametrize("text, fault", [
@@ -44,8 +38,9 @@ def test_turns(path, tmp_path, library):
     ("1 close 1 -> 1 stored 1\nrefuse 1 sheet -> 1 refused nogroup", "something changed"),
 ], ids=["a turn that takes no memory", "a count that is another"])
 def test_mistake_is_seen(text, fault, tmp_path, library):
-    (tmp_path / "wrong.case").write_text(f"setup rehearsal\ncase a mistake\nformat\nopen\nhold\n{text}\n")
-    assert fault in "\n".join(faults_of_turns("wrong.case", tmp_path, library))
+    path = tmp_path / "wrong.case"
+    path.write_text(f"setup rehearsal\ncase a mistake\nformat\nopen\nhold\n{text}\n")
+    assert fault in "\n".join(faults_of_turns(path, tmp_path, library))
 
 
 @pytest.mark.parametrize("test", ["a_disk_is_written", "a_set_up_is_read"])
