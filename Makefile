@@ -60,7 +60,7 @@ quick:
 	@scripts/quick $(CASES)
 
 cases:
-	@scripts/build zh_cases
+	@scripts/build zh_cases rehearsal >&2
 	@scripts/cases $(CASES)
 
 refused:
