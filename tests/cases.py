@@ -196,8 +196,10 @@ def asked(turn, read):
     """The words with which the program is asked for a turn; `read` gives the bytes of a file."""
     word, _, rest = turn.partition(" ")
     name, _, limit = rest.partition(" ")
-    if turn[:1].isdecimal() or turn.startswith('"'):
-        return "send", turn.removeprefix('"').removesuffix('"').encode().hex()
+    if turn[:1].isdecimal():
+        return "send", turn.encode().hex()
+    if turn[:1] == turn[-1:] == '"':
+        return "send", turn[1:-1].encode().hex()
     if word == "hex":
         return "send", coded(rest.split()).hex()
     if word == "stop" and rest not in ("keep", "old"):
@@ -211,9 +213,10 @@ def asked(turn, read):
     if word == "lot":
         return word, *question(rest)
     if word in ("zhcount", "within"):
-        given, _, name = rest.partition("<")
-        limit, _, arguments = given.rpartition("zhcount ")
-        return word, *(limits(word, limit.strip()) if word == "within" else []), name.strip() or "-", *arguments.split()
+        limit, _, given = turn.partition("zhcount")
+        arguments, _, name = given.partition("<")
+        found = limits(word, limit.removeprefix("within ").strip()) if limit else []
+        return word, *found, name.strip() or "-", *arguments.split()
     return {"save": "image", "load": "disk"}.get(word, word), *rest.split()
 
 
@@ -231,7 +234,7 @@ class Run:
         """What the program answers to a turn."""
         answer = b""
         with suppress(BrokenPipeError):
-            self.program.stdin.write(" ".join(map(str, words)).encode() + b"\n")
+            self.program.stdin.write(f"{' '.join(map(str, words)).strip()}\n".encode())
         while not answer.endswith(b"\n"):
             part = self.program.stdout.read(1 << 16)
             if not part:
@@ -273,7 +276,7 @@ class Run:
         elif word == "held":
             return "ok" if self.is_as_held() else "differs"
         elif word in ("holds", "poke", "damage"):
-            return self.on_image(word, *rest.split())
+            return self.on_image(word, rest)
         elif word == "case":
             self.cell, self.is_over = "", False
             self.ask("setup", 0)
@@ -298,8 +301,9 @@ class Run:
         image, count = self.holding()
         return image == self.held[0] and count in (b"", self.held[1])
 
-    def on_image(self, word, place, *words):
+    def on_image(self, word, rest):
         """The answer to a turn on the bytes of the disk from a place on."""
+        place, *words = rest.split()
         start, content = place_of(place), coded(words)
         self.ask("image", IMAGE)
         image = self.read(IMAGE)
