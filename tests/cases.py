@@ -238,7 +238,8 @@ class Run:
         while not answer.endswith(b"\n"):
             part = self.program.stdout.read(1 << 16)
             if not part:
-                raise ValueError(self.program.stderr.read().decode(errors="replace").strip() or "the program has ended")
+                said = self.program.stderr.read().decode(errors="replace").strip()
+                raise ValueError(said or f"the program ended with status {self.program.wait()}")
             answer += part
         return answer[:-1].decode()
 
