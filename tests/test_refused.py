@@ -1,14 +1,13 @@
-"""Each allocation of some turns and tests is refused in turn (tests/refuse.c): memory has to be reported as refused, unless the call did
-without; nothing may have changed, and the next call has to work. This runs the programs that rt ci has built."""
+"""Each allocation of some turns is refused in turn (tests/refuse.c): memory has to be reported as refused, unless the call did
+without; nothing may have changed, and the next call has to work. This runs the program that rt ci has built."""
 import itertools
 
 import pytest
 
 from cases import lines_of, run
-from places import CASES, PROGRAM_OF_CASES, TOP
+from places import CASES, PROGRAM_OF_CASES
 from refusing import Preloaded
 
-PROGRAM_OF_TESTS = TOP / "crates/zh_crate_tests/out/zh_crate_tests_tests"
 TURNS = 16
 
 
@@ -41,16 +40,3 @@ def test_mistake_is_seen(text, fault, tmp_path, library):
     path = tmp_path / "wrong.case"
     path.write_text(f"setup rehearsal\ncase a mistake\nformat\nopen\nhold\n{text}\n")
     assert fault in "\n".join(faults_of_turns(path, tmp_path, library))
-
-
-@pytest.mark.parametrize("test", ["a_disk_is_written", "a_set_up_is_read"])
-def test_test(test, tmp_path, library):
-    """A test is refused each allocation that it makes. The first runs may fail, since its set-up, which comes first, need not bear that."""
-    held = 0
-    for number in itertools.count(1):
-        it = Preloaded(library, tmp_path).run(PROGRAM_OF_TESTS, f"tests::refused_memory::{test}", REFUSE=number)
-        assert it.status == 0 or it.is_reached and not held, f"allocation {number}: {it.out}{it.said}"
-        if not it.is_reached:
-            break
-        held += it.status == 0
-    assert held

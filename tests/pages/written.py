@@ -53,7 +53,6 @@ def evidence(tree, table):
         "wrong bodies": f"{len([*tree.top.glob('crates/*/must-fail/*.edit')]) + found('tests/wrong_bodies/*.edits', '^name: '):,}",
         "the gravest of them": found("tests/wrong_bodies/gravest", "^zh_"),
         "cases": f"{cases:,}, with {turns:,} turns",
-        "tests in code": found("crates/*/src/**/*.rt", "^ *#.test."),
         "wrong lines of the scripts of `desks/`": found("tests/desks/plants/*.edits", "^seen by: "),
         "tests of the page": found("tests/page/test_*.py", "^ *def test_"),
         "wrong lines of the page": found("tests/page/plants/*.edits", "^seen by: "),
