@@ -7,14 +7,16 @@ import shutil
 import subprocess
 import tempfile
 import threading
+from operator import floordiv
 from pathlib import Path
 
 from edited.report import Report
-from edited.tree import PARTS
+from edited.tree import PARTS, words_in
 
 # (so that a check that does not end is noticed; a busy machine may take five times as long as a quiet one)
 SECONDS = 90 * 60
 KILLED = -9
+MEMORY_OF_A_LANE = 3_000_000_000
 SAID = {"stdin": subprocess.DEVNULL, "stdout": subprocess.PIPE, "stderr": subprocess.STDOUT, "text": True, "errors": "replace"}
 
 
@@ -29,9 +31,8 @@ class Prover:
     def words(self, crate):
         """The arguments of a check of the crate in the current folder, over the libraries that are built."""
         root = "src/main.rt" if (self.tree.folder(crate) / "src/main.rt").is_file() else "src/lib.rt"
-        of_kit = ["std", *(it for it in self.tree.named[crate] if it not in self.tree.named)]
-        libraries = [f"{it}={self.kit}/rlibs/{it}.rlib" for it in of_kit]
-        libraries += [f"{it}={self.tree.library(it)}" for it in self.tree.uses[crate]]
+        of_kit, own = ["std", *(it for it in self.tree.named[crate] if it not in self.tree.named)], self.tree.uses[crate]
+        libraries = [f"{it}={self.kit}/rlibs/{it}.rlib" for it in of_kit] + [f"{it}={self.tree.library(it)}" for it in own]
         folders = [f"{self.kit}/rlibs", *(self.tree.library(it).parent for it in self.tree.below(crate))]
         return ["--crate-name", crate, root, *(word for it in libraries for word in ("--extern", it)),
                 *(word for it in folders for word in ("-L", f"dependency={it}")),
@@ -73,9 +74,7 @@ class Prover:
 
 def build_libraries(tree, crates, jobs, say):
     """Has the toolchain build the libraries below these crates that are not made from the sources of now. Whether all are in the end."""
-    for name in tree.below(*crates):
-        if tree.is_noted(name):
-            continue
+    for name in (it for it in tree.below(*crates) if not tree.is_noted(it)):
         say(f"{name}: building the library")
         before = tree.library_sum(name)
         ran = subprocess.run(["rt", "lib", "--jobs", str(jobs)], cwd=tree.folder(name), **SAID)
@@ -86,21 +85,13 @@ def build_libraries(tree, crates, jobs, say):
     return True
 
 
-def processors():
-    """The processors that the process may use, by its group's quota too."""
-    found = len(os.sched_getaffinity(0))
-    try:
-        quota, period = map(int, Path("/sys/fs/cgroup/cpu.max").read_text().split())
-        return max(1, min(found, quota // period))
-    except (OSError, ValueError):  # the group has no quota
-        return found
-
-
-def free_memory():
-    """The bytes that are free, under the limit of the process's group too."""
-    free, group = 1024 * int(re.search(r"MemAvailable: +(\d+)", Path("/proc/meminfo").read_text())[1]), Path("/sys/fs/cgroup")
-    try:
+def lanes_of_the_machine():
+    """How many checks may run side by side, by the processors and the memory that are free, under the limits of the process's group too."""
+    group, processors = Path("/sys/fs/cgroup"), len(os.sched_getaffinity(0))
+    free = 1024 * int(re.search(r"MemAvailable: +(\d+)", Path("/proc/meminfo").read_text())[1])
+    if words_in(group / "cpu.max")[:1] not in ([], ["max"]):
+        processors = min(processors, floordiv(*map(int, words_in(group / "cpu.max"))))
+    if words_in(group / "memory.max") not in ([], ["max"]):
         # (the first number of memory.stat is what can't be given back)
-        return min(free, int((group / "memory.max").read_text()) - int((group / "memory.stat").read_text().split()[1]))
-    except (OSError, ValueError):  # the group has no limit
-        return free
+        free = min(free, int(words_in(group / "memory.max")[0]) - int(words_in(group / "memory.stat")[1]))
+    return max(1, min(processors, int(free * 0.9 / MEMORY_OF_A_LANE)))

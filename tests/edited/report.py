@@ -10,12 +10,10 @@ OPEN = re.compile(rf"^note: {PLACE}it is not proved that .*", re.M)
 ERROR = re.compile(rf"^{PLACE}error: (?P<said>.*)", re.M)
 # (a name that the proof cites and that is gone, or what cites such a proof)
 GONE_NAME = re.compile(r"has no field|is not in scope|has no `|is no name|was not admitted|not admitted")
-GONE_GOAL = re.compile(r"`goal\.([^`]+)`")
+# The kind of a goal is the first word of its name.
+KIND = re.compile(r"[^`_-]+")
+GONE_GOAL = re.compile(rf"`goal\.({KIND.pattern})")
 IS_FALSE = "allow values at which this goal is false"
-
-
-def kind_of(goal):
-    return re.split(r"[-_]", goal)[0]
 
 
 class Report:
@@ -42,16 +40,13 @@ class Report:
 
     def named(self, crate, function):
         """The names under which the check tells of a function of the crate, and of the closures in it."""
-        path = "::".join(filter(None, (crate, function.module, function.name)))
-        ends = [it.split("::") for it in self.verdicts]
-        if not function.of:
-            found = [it for it in self.verdicts if it == path]
-        else:
-            method = [it for it in ends if it[-1] == function.name and len(it) > 2]
+        found = [it for it in self.verdicts if it == "::".join(filter(None, (crate, function.module, function.name)))]
+        if function.of:
+            method = [(it, it.split("::")[-2]) for it in self.verdicts if it.count("::") > 1 and it.endswith(f"::{function.name}")]
             wanted = function.of + function.trait
-            found = [it for it in method if it[-2] == wanted] or [it for it in method if it[-2].startswith(wanted)]
             # (which trait of some name it is, as `From`, the text does not always say)
-            found = ["::".join(it) for it in found or [it for it in method if it[-2].startswith(function.of)]]
+            found = [it for it, of in method if of == wanted] or [it for it, of in method if of.startswith(wanted)] or [
+                it for it, of in method if of.startswith(function.of)]
         return found + [it for it in self.verdicts if f"::fn::{function.name}::" in it]
 
     def errors_of(self, names):
@@ -62,14 +57,13 @@ class Report:
     def breaks_at_a_goal(self, names, functions):
         """Whether a goal of one of these functions, which have these names here, is refused, and what was said."""
         own = self.errors_of(names)
-        gone = {kind_of(it) for said in own if GONE_NAME.search(said) for it in GONE_GOAL.findall(said)}
+        gone = {it for said in own if GONE_NAME.search(said) for it in GONE_GOAL.findall(said)}
         answers = [said for said in own if not GONE_NAME.search(said)]
         opened = [(goals, said) for file, line, goals, said in self.open_goals for it in functions
                   if it.file == file and it.start <= line <= it.end]
         for name in names:
             goals = re.findall(r"`([^`]+)`", self.verdicts[name][1].partition("did not prove ")[2].partition(";")[0])
             opened += [(goals, f"{name}: open: {', '.join(goals)}")] if goals else []
-        for goals, said in opened:
-            if IS_FALSE in said or not gone or any(kind_of(it) not in gone for it in goals):
-                return said
-        return answers[0] if answers else None
+        counting = [said for goals, said in opened
+                    if IS_FALSE in said or not gone or any(KIND.match(it)[0] not in gone for it in goals)]
+        return next(iter(counting + answers), None)

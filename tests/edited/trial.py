@@ -24,11 +24,8 @@ class Crate:
     the crate's libraries, so that a run that goes on after another need not try them."""
 
     def __init__(self, tree, name, edits):
-        self.tree, self.name, self.edits, self.outcomes, self.checks, self.seconds = tree, name, edits, {}, 0, 0
+        self.tree, self.name, self.edits, self.outcomes, self.checks = tree, name, edits, {}, 0
         self.path, self.rest = tree.folder(name) / "out/refused", tree.sums([name], [])
-
-    def is_kept(self, edit):
-        return self.sum(edit) in words_in(self.path)
 
     def sum(self, edit):
         return sum_of(self.rest[self.name] + edit.text)
@@ -39,10 +36,6 @@ class Crate:
             kept = {*words_in(self.path), *(self.sum(it) for it in self.edits if self.outcomes.get(it.name, [""])[0] == REFUSED)}
             self.path.parent.mkdir(exist_ok=True)
             self.path.write_text("\n".join(sorted(kept)))
-
-    @property
-    def refused(self):
-        return sum(kind == REFUSED for kind, _ in self.outcomes.values())
 
 
 def batches_of(edits):
@@ -68,8 +61,7 @@ def judged(report, crate, edit, is_alone):
     if not report.has_verdicts:
         return (GONE if report.status == 1 else UNKNOWN, report.first_error) if is_alone else None
     names = [name for it in edit.functions for name in report.named(crate, it)]
-    said = report.breaks_at_a_goal(names, edit.functions)
-    if said:
+    if said := report.breaks_at_a_goal(names, edit.functions):
         return REFUSED, said
     if not is_alone:
         return None
@@ -80,19 +72,15 @@ def judged(report, crate, edit, is_alone):
     if any(GONE_NAME.search(it) for it in report.errors_of(names)):
         return NAMES, report.first_error
     refused = " ".join([name for name, (verdict, _) in report.verdicts.items() if verdict != "proved"][:4])
-    if not edit.functions:
-        return ELSEWHERE, f"it changes no function; add '# refused at: FUNCTION' if one of these is meant: {refused}"
-    return ELSEWHERE, refused
+    advice = "" if edit.functions else "it changes no function; add '# refused at: FUNCTION' if one of these is meant: "
+    return ELSEWHERE, advice + refused
 
 
 def try_batch(prover, seed, crate, batch):
     """What each edit of the batch came to, as above."""
     texts = {}
-    try:
-        for edit in batch:
-            texts = edit.applied(texts)
-    except NoLongerApplies as why:
-        return [(GONE, str(why)) if len(batch) == 1 else None for _ in batch]
+    for edit in batch:
+        texts = edit.applied(texts)
     report = prover.check_over(seed, crate, texts, [it for edit in batch for it in edit.functions])
     return [judged(report, crate, edit, len(batch) == 1) for edit in batch]
 
@@ -119,18 +107,17 @@ def try_crate(prover, name, edits, jobs, anew, say):
     """Tries these wrong bodies of a crate, all anew or those that no run refused, over a first check of it, with at most `jobs` jobs.
     Where they are few checks, and the library shows that the crate is proved, none is made: it takes as long as each of them does from
     nothing."""
-    began, crate, todo = time.monotonic(), Crate(prover.tree, name, edits), []
+    began, crate = time.monotonic(), Crate(prover.tree, name, edits)
     for edit in edits:
         try:
             edit.applied({})
             edit.callers()
-            if anew or not crate.is_kept(edit):
-                todo.append(edit)
-            else:
+            if not anew and crate.sum(edit) in words_in(crate.path):
                 crate.outcomes[edit.name] = REFUSED, "by an earlier run"
         except NoLongerApplies as why:
             crate.outcomes[edit.name] = GONE, str(why)
-    batches, seed, own = batches_of(todo), None, prover.tree.folder(name) / "out/incremental"
+    todo, seed, own = [it for it in edits if it.name not in crate.outcomes], None, prover.tree.folder(name) / "out/incremental"
+    batches = batches_of(todo)
     with tempfile.TemporaryDirectory(dir=prover.folder) as room:
         if len(batches) > FEW_CHECKS or todo and not prover.tree.is_noted(name):
             seed = shutil.copytree(own, room, dirs_exist_ok=True) if own.is_dir() else room
@@ -140,5 +127,5 @@ def try_crate(prover, name, edits, jobs, anew, say):
                 crate.outcomes.update({it.name: (UNKNOWN, f"the crate itself is not proved: {report.first_error}") for it in todo})
                 batches = []
         try_batches(prover, seed, crate, batches, say)
-    crate.seconds = round(time.monotonic() - began)
+    crate.seconds, crate.refused = round(time.monotonic() - began), sum(kind == REFUSED for kind, _ in crate.outcomes.values())
     return crate
