@@ -52,7 +52,7 @@ class Small:
 def tried(tmp_path_factory):
     """The small tree after a run that refused its wrong bodies."""
     tree = Small(tmp_path_factory.mktemp("tried") / "tree", [it for it in WRONG if it not in OTHERS])
-    tree.says(0, "6 passed, 0 failed", "zh_low: 5 of 5 refused at a goal of their own")
+    tree.says(0, "6 passed, 0 failed", "zh_low: 5 of 5 refused at a goal of their own, in 4 checks")
     return tree.top
 
 
@@ -128,8 +128,11 @@ def test_rest(tree):
     """Going on after a run that found one still proved: what was refused is not tried again until the sources change."""
     tree.put("zh_low/second.steps_by_next")
     tree.says(1, "6 passed, 1 failed")
+    tree.says(0, "tried: zh_low; of the others", words=["--differ"])
     tree.change(tree.wrong / "zh_low.edits", "new: next(first)", "new: stepped(n)")
     tree.says(0, "zh_low: 6 of 6 refused at a goal of their own, in 1 checks", words=["--rest"])
     tree.says(0, "0 passed, 0 failed", words=["--rest"])
     tree.change(LOW, "    n + STEP", "    STEP + n")
     tree.says(0, "zh_low: 6 of 6 refused at a goal of their own, in 5 checks", words=["--rest", "zh_low"])
+    tree.change(LOW, "stepped(first)", "stepped(n)")  # which is a wrong body itself
+    tree.says(1, "zh_low/next.adds_two: no verdict: the crate itself is not proved: ", words=["--rest", "zh_low"])
