@@ -4,18 +4,22 @@ import json
 import re
 import struct
 
-from cases import PLACES, coded, place_of, turns
+from cases import coded, turns
 from counting import Count, random_line
 from places import CASES
 
 DISK_BYTES = 1118720
+PLACES = {"head": 0, "setup": 4096}
+for _slot, _place in ((1, 69632), (2, 594176)):
+    PLACES.update({f"slot{_slot}": _place, f"slot{_slot}.gate": _place, f"slot{_slot}.generation": _place + 1,
+                   f"slot{_slot}.payload": _place + 9, f"journal{_slot}": _place + 262400})
 FORMAT_BYTE = PLACES["slot1.payload"] + 72
 # The tables of a set-up: how their numbers of rows are packed, and their fields.
 SETUP = [("constituency", "B", "persons", ">I"), ("municipality", ">H", "constituency", "B"), ("group", "B", "stands", ">I")]
 # How a record of desk 1 begins in formats 1 and 2.
 KINDS = {"return": (b"\1", b"\6\1"), "withdraw": (b"\2", b"\7\1"), "close": (b"\3", b"\3"), "reopen": (b"\4", b"\4"),
          "commit": (b"\5", b"\x08\1")}
-DAMAGE = re.compile(r"((?:damage|poke) (\S+) ([0-9a-f* ]+?))(?: *->.*)?$")
+DAMAGE = re.compile(r"((?:damage|poke) ([a-z]\S*?|\d+)(?:\+(\d+))? ([0-9a-f* ]+?))(?: *->.*)?$")
 
 
 def put(disk, place, data):
@@ -35,8 +39,8 @@ def named_damages():
     found = {}
     for line, _ in [*turns(CASES / "damages.case"), *turns(CASES / "migrations.case")]:
         if match := DAMAGE.match(line):
-            title, place, data = match.groups()
-            found[title] = place_of(place), coded(data.split())
+            title, place, further, data = match.groups()
+            found[title] = (PLACES[place] if place in PLACES else int(place)) + int(further or 0), coded(data.split())
     return found
 
 

@@ -12,8 +12,8 @@ import tempfile
 import pytest
 
 from canton import Canton, Chance
-from cases import PLACES, coded, place_of
-from disks import DISK_BYTES, FORMAT_BYTE, journal_of, kept_images, named_damages, put, records_of, setup_of
+from cases import coded
+from disks import DISK_BYTES, FORMAT_BYTE, PLACES, journal_of, kept_images, named_damages, put, records_of, setup_of
 from places import PROGRAM, REHEARSAL, ZURICH
 from room import SCRIPTS, Room
 
@@ -102,7 +102,8 @@ def odd():
     for line in re.findall("^[^#\n].*", pathlib.Path(__file__).with_name("odd_disks.txt").read_text(), re.M):
         (title, _, edits), disk = line.rpartition(": "), empty_disk
         for place, data in (it.split(" ", 1) for it in edits.split("; ")):
-            disk = put(disk, place_of(place), coded(data.split()))
+            name, _, further = place.partition("+")
+            disk = put(disk, PLACES[name] + int(further or 0), coded(data.split()))
         yield title or edits, disk
     yield "elsewhere", put(fresh(CANTON), PLACES["journal1"], coded("a501000d 06 01 00b4 09 00000001 00000007".split()))
 
