@@ -61,7 +61,7 @@ quick:
 
 cases:
 	@scripts/build zh_cases rehearsal >&2
-	@scripts/cases $(CASES)
+	@"$(PYTHON)" tests/cases.py $(CASES)
 
 refused:
 	@$(call pytest,all) tests/test_refused.py

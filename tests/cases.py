@@ -1,9 +1,22 @@
-"""The cases (docs/CASES.md): their texts, written out, and runs of them with the program zh_cases, which makes one turn at a time."""
+#!/usr/bin/env python3
+"""The cases (docs/CASES.md): their texts, written out, and runs of them with the program zh_cases, which makes one turn at a time.
+
+`tests/cases.py [--program PROGRAM] [FILE.case ..]` runs these files, or all, several at once, with the proved program or another. For each
+it prints how many cases and turns it has, or what is wrong with it."""
+import argparse
+import os
 import re
 import subprocess
+import sys
+import tempfile
 from collections import defaultdict, namedtuple
+from concurrent.futures import ProcessPoolExecutor
 from contextlib import suppress
+from functools import partial
 from itertools import product
+from pathlib import Path
+
+from places import CASES, PROGRAM_OF_CASES
 
 # A line of a text; a file in it is one line, `file NAME` and the file's lines.
 Line = namedtuple("Line", "number text")
@@ -357,3 +370,26 @@ def run(path, program, folder, environment=None):
     except (Fault, OSError) as said:
         fault = f"{name}:{said}"
     return Outcome(*counted(lines), fault, reports)
+
+
+def ran(program, path):
+    with tempfile.TemporaryDirectory() as folder:
+        return run(path, program, Path(folder))
+
+
+def main():
+    parser = argparse.ArgumentParser(description=__doc__, formatter_class=argparse.RawDescriptionHelpFormatter)
+    parser.add_argument("--program", type=Path, default=PROGRAM_OF_CASES)
+    parser.add_argument("names", metavar="FILE.case", nargs="*")
+    given = parser.parse_args()
+    paths, right = [CASES / it for it in given.names] or sorted(CASES.glob("*.case")), []
+    with ProcessPoolExecutor(len(os.sched_getaffinity(0))) as pool:
+        for path, it in zip(paths, pool.map(partial(ran, given.program.resolve()), paths)):
+            right += [] if it.fault else [it]
+            print(it.fault or f"{path.name}: {it.cases} cases, {it.turns} turns", file=sys.stderr if it.fault else sys.stdout, flush=True)
+    print(f"all: {sum(it.cases for it in right)} cases, {sum(it.turns for it in right)} turns")
+    return len(right) < len(paths)
+
+
+if __name__ == "__main__":
+    sys.exit(main())
