@@ -72,7 +72,7 @@ def test_kinds(tmp_path, programs, left_out):
     Small(tmp_path / "tree", names, programs=f"{programs}{tmp_path}").says(
         1, f"\n{len(names) - len(others)} passed, {len(others)} failed\n", *(f"\nFAIL  {it}: {OTHERS[it]}" for it in others))
     heard = "\n".join(it.read_text() for it in tmp_path.glob("*.heard"))
-    assert [it for name in names for it in re.findall(r"(?m)^# said: (.*)", WRONG[name]) if f"\n{it}" not in f"\n{heard}"] == []
+    assert [it for name in names for it in re.findall(r"(?m)^# said: (.*)", WRONG[name]) if f"\n{it}" not in f"\n{heard}"] == [], heard
 
 
 def test_libraries(tree):

@@ -7,7 +7,6 @@ import shutil
 import subprocess
 import tempfile
 import threading
-from operator import floordiv
 from pathlib import Path
 
 from edited.report import Report
@@ -16,6 +15,7 @@ from edited.tree import PARTS, words_in
 # (so that a check that does not end is noticed; a busy machine may take five times as long as a quiet one)
 SECONDS = 90 * 60
 KILLED = -9
+GROUP = Path("/sys/fs/cgroup")
 MEMORY_OF_A_LANE = 3_000_000_000
 SAID = {"stdin": subprocess.DEVNULL, "stdout": subprocess.PIPE, "stderr": subprocess.STDOUT, "text": True, "errors": "replace"}
 
@@ -85,13 +85,15 @@ def build_libraries(tree, crates, jobs, say):
     return True
 
 
+def processors():
+    """The processors that the process may use, by its group's quota too."""
+    found, (quota, *period) = len(os.sched_getaffinity(0)), words_in(GROUP / "cpu.max") or ["max"]
+    return found if quota == "max" else max(1, min(found, int(quota) // int(period[0])))
+
+
 def lanes_of_the_machine():
-    """How many checks may run side by side, by the processors and the memory that are free, under the limits of the process's group too."""
-    group, processors = Path("/sys/fs/cgroup"), len(os.sched_getaffinity(0))
+    """How many checks may run side by side, by the processors and the memory that is free, under the limit of the process's group too."""
     free = 1024 * int(re.search(r"MemAvailable: +(\d+)", Path("/proc/meminfo").read_text())[1])
-    if words_in(group / "cpu.max")[:1] not in ([], ["max"]):
-        processors = min(processors, floordiv(*map(int, words_in(group / "cpu.max"))))
-    if words_in(group / "memory.max") not in ([], ["max"]):
-        # (the first number of memory.stat is what can't be given back)
-        free = min(free, int(words_in(group / "memory.max")[0]) - int(words_in(group / "memory.stat")[1]))
-    return max(1, min(processors, int(free * 0.9 / MEMORY_OF_A_LANE)))
+    # (the first number of memory.stat is what can't be given back)
+    free = min([free, *(int(it) - int(words_in(GROUP / "memory.stat")[1]) for it in words_in(GROUP / "memory.max") if it != "max")])
+    return max(1, min(processors(), int(free * 0.9 / MEMORY_OF_A_LANE)))
