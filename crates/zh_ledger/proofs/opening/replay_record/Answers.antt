@@ -11,7 +11,8 @@ use Rattle.zh_ledger.proofs.opening.replay_record.Goals as goal
 
 pub returns-clause-replayed : goal.returns-clause-replayed
 returns-clause-replayed c = λ is.
-    let judged : judge c.args.count.now c.in-Some.command ≡ Accept = search rules in
+    let found : c.judge.result ≡ Accept = search rules in
+    let judged : judge c.args.count.now c.in-Some.command ≡ Accept = sym (ap (λ (t : Tally). judge t c.in-Some.command) c.count-now.ensures) ∙ (sym c.judge.ensures ∙ found) in
     let room : c.args.count.now.accepted < 2 ^ 64 - 1 = omega (arith, ap (λ (t : Tally). t.accepted) c.count-now.ensures) in
     let next : IsNext c.args.format c.args.count.now c.args.payload.now c.in-Some.command =
     record { speakable = c.in-Some.ensures.read.0; spelled = c.in-Some.ensures.read.1; accepted = judged; room = room } in
@@ -22,4 +23,5 @@ pub returns-then-ne-clause-refused : goal.returns-then-ne-clause-refused
 returns-then-ne-clause-refused c = λ _ command speakable spelled accept room.
     let same : command ≡ c.in-Some.command = command_once c.args.format command c.in-Some.command speakable c.in-Some.ensures.read.0 (spelled ∙ sym c.in-Some.ensures.read.1) in
     let judged : judge c.args.count.now c.in-Some.command ≡ Accept = subst (λ (x : Command). judge c.args.count.now x ≡ Accept) same accept in
-    elim c.then-ne.branch [ then-ne-via-then-ne w ↦ search rules | then-ne-via-else-ne+then-accepted w ↦ absurd (omega (arith, ap (λ (t : Tally). t.accepted) c.count-now.ensures)) ]
+    let found : c.judge.result ≡ Accept = c.judge.ensures ∙ (ap (λ (t : Tally). judge t c.in-Some.command) c.count-now.ensures ∙ judged) in
+    elim c.then-ne.branch [ then-ne-via-then-ne w ↦ absurd (search rules) | then-ne-via-else-ne+then-accepted w ↦ absurd (omega (arith, ap (λ (t : Tally). t.accepted) c.count-now.ensures)) ]
