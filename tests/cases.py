@@ -12,8 +12,7 @@ import tempfile
 from collections import defaultdict, namedtuple
 from concurrent.futures import ProcessPoolExecutor
 from contextlib import suppress
-from functools import partial
-from itertools import product
+from itertools import product, repeat
 from pathlib import Path
 
 from places import CASES, PROGRAM_OF_CASES
@@ -356,6 +355,7 @@ class Run:
 def run(path, program, folder, environment=None):
     """Runs a file of cases in a folder, up to its first fault. Its set-ups are next to it."""
     lines, fault, reports, name = [], "", [], path.name
+    folder.mkdir(exist_ok=True)
     try:
         lines = lines_of(path.read_text())
         setups = [*dict.fromkeys(it.text[6:] for it in lines if it.text.startswith("setup "))]
@@ -372,19 +372,14 @@ def run(path, program, folder, environment=None):
     return Outcome(*counted(lines), fault, reports)
 
 
-def ran(program, path):
-    with tempfile.TemporaryDirectory() as folder:
-        return run(path, program, Path(folder))
-
-
 def main():
     parser = argparse.ArgumentParser(description=__doc__, formatter_class=argparse.RawDescriptionHelpFormatter)
     parser.add_argument("--program", type=Path, default=PROGRAM_OF_CASES)
     parser.add_argument("names", metavar="FILE.case", nargs="*")
     given = parser.parse_args()
     paths, right = [CASES / it for it in given.names] or sorted(CASES.glob("*.case")), []
-    with ProcessPoolExecutor(len(os.sched_getaffinity(0))) as pool:
-        for path, it in zip(paths, pool.map(partial(ran, given.program.resolve()), paths)):
+    with tempfile.TemporaryDirectory() as room, ProcessPoolExecutor(len(os.sched_getaffinity(0))) as pool:
+        for path, it in zip(paths, pool.map(run, paths, repeat(given.program.resolve()), (Path(room, it.stem) for it in paths))):
             right += [] if it.fault else [it]
             print(it.fault or f"{path.name}: {it.cases} cases, {it.turns} turns", file=sys.stderr if it.fault else sys.stdout, flush=True)
     print(f"all: {sum(it.cases for it in right)} cases, {sum(it.turns for it in right)} turns")

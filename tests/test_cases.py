@@ -7,13 +7,12 @@ import pytest
 from cases import Fault, lines_of, run
 from places import CASES, PROGRAM_OF_CASES, TOP
 
-BUILDS = {"": "of LLVM", ".by-rattle": "of Rattle"}
 HEAD = "setup rehearsal\n\ncase a wrong one\n"
 PLACES = ("slot3", "slot1.journal", "journal", "Slot1", "+1")
 TEXTS = re.split(r"\n\n(?=\S)", (TOP / "tests/written_out.txt").read_text().strip())[1:]
 
 
-@pytest.mark.parametrize("build", BUILDS, ids=BUILDS.get)
+@pytest.mark.parametrize("build", ["", ".by-rattle"], ids=["of LLVM", "of Rattle"])
 @pytest.mark.parametrize("path", sorted(CASES.glob("*.case")), ids=lambda it: it.stem)
 def test_answers(path, build, tmp_path):
     assert run(path, f"{PROGRAM_OF_CASES}{build}", tmp_path).fault == ""
