@@ -1,5 +1,4 @@
-"""The cases, run with both builds of their program; and what is refused: a text that is not understood, and an answer that is not the
-expected one, are named by their line."""
+"""The cases, run with both builds of their program; and texts and answers that are refused, each with the number of its line."""
 import re
 
 import pytest
@@ -15,7 +14,10 @@ TEXTS = re.split(r"\n\n(?=\S)", (TOP / "tests/written_out.txt").read_text().stri
 @pytest.mark.parametrize("build", ["", ".by-rattle"], ids=["of LLVM", "of Rattle"])
 @pytest.mark.parametrize("path", sorted(CASES.glob("*.case")), ids=lambda it: it.stem)
 def test_answers(path, build, tmp_path):
-    assert run(path, f"{PROGRAM_OF_CASES}{build}", tmp_path).fault == ""
+    program = PROGRAM_OF_CASES.with_name(f"zh_cases{build}")
+    if build and not program.exists():
+        pytest.skip("rt ci has not left the program that Rattle's own compiler makes")
+    assert run(path, program, tmp_path).fault == ""
 
 
 @pytest.mark.parametrize("text, fault", [
