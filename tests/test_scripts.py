@@ -8,7 +8,7 @@ import pytest
 
 from places import TOP
 
-# `rt run` makes a program that says what text it was built from; `rt try` compiles one and runs it, and the program opens its set-up.
+# `rt run` makes a program that says what text it was built from; `rt try` compiles one and runs it: try -- list --setup FILE --of groups.
 RT = r"""#!/usr/bin/env bash
 case "$1" in
     version) echo "kit of the test logic 0" ;;
@@ -33,8 +33,7 @@ case "$1" in
         echo 'x' >> "$ROOM/compiled"
         printf '#!/bin/sh\nsed "s/^/unproved: /"\n' > "$TMPDIR/native/program"
         chmod +x "$TMPDIR/native/program"
-        while [ ! -p "$1" ]; do shift; done
-        cat "$1" > /dev/null
+        cat "$5" > /dev/null
         echo 'run=ended status=1 proved=no' >&2
         ;;
 esac
@@ -50,10 +49,10 @@ AT_WORK = "until grep -q ' of ' log 2> /dev/null; do sleep 0.1; done"
 def sh(tmp_path):
     """Runs commands in the small copy: what they say, what they complain of, and their status."""
     top = tmp_path / "a checkout"
-    for crate in ("zh_bench", "zh_cases", "zh_low", "zhcount"):
+    for crate in ("zh_cases", "zh_low", "zhcount"):
         (top / "crates" / crate / "src").mkdir(parents=True)
         (top / "crates" / crate / "src/lib.rt").write_text(f"text of {crate}\n")
-    (top / "crates.txt").write_text("zh_low: thiserror\nzhcount: zh_low\nzh_bench: zhcount\nzh_cases: zhcount\n")
+    (top / "crates.txt").write_text("zh_low: thiserror\nzhcount: zh_low\nzh_cases: zhcount\n")
     for it in ("scripts", "tests/edited"):
         shutil.copytree(TOP / it, top / it)
     shutil.copy(TOP / "Makefile", top)
@@ -98,12 +97,6 @@ def test_what_is_not_proved_runs_unproved_and_is_compiled_once(sh):
     for change, times in ((":", 1), (CHANGE, 2), ("echo exit 1 >> crates/zhcount/out/unproved/zhcount", 3)):
         sh(change)
         assert sh(RUN)[0] == UNPROVED and sh("cat compiled")[0] == "x\n" * times
-
-
-def test_the_program_of_the_cases_is_compiled_too(sh):
-    said, errors, _ = sh("scripts/program zh_cases")
-    assert said.endswith("/crates/zh_cases/out/unproved/zh_cases\n") and "running them unproved" in errors
-    assert sh('echo 1 open | "$(scripts/program zh_cases 2> /dev/null)"; cat compiled')[0] == f"{UNPROVED}x\n"
 
 
 @pytest.mark.parametrize("command, answers", [
