@@ -60,10 +60,11 @@ check:
 short = $(filter-out $(shell cat tests/quick_without),$(notdir $(wildcard crates/zh_cases/data/*.case)))
 
 quick:
-	@program=$$(scripts/program zh_cases) && "$(PYTHON)" tests/cases.py --program "$$program" $(or $(CASES),$(short)) && \
+	@makes=$$(scripts/program zh_cases) && runs=$$(scripts/program) && "$(PYTHON)" tests/cases.py --programs "$$makes" "$$runs" $(or $(CASES),$(short)) && \
 	echo "nothing was proved; left out, as they take long: $(if $(CASES),none,$$(paste -sd ' ' tests/quick_without))"
 
 cases:
+	@scripts/build >&2
 	@scripts/build zh_cases rehearsal >&2
 	@"$(PYTHON)" tests/cases.py $(CASES)
 

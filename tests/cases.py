@@ -1,8 +1,9 @@
 #!/usr/bin/env python3
-"""The cases (docs/CASES.md): their texts, written out, and runs of them with the program zh_cases, which makes one turn at a time.
+"""The cases (docs/CASES.md): their texts, written out, and runs of them with the program zh_cases, which makes one turn at a time, and with
+zhcount.
 
-`tests/cases.py [--program PROGRAM] [FILE.case ..]` runs these files, or all, several at once, with the proved program or another. For each
-it prints how many cases and turns it has, or what is wrong with it."""
+`tests/cases.py [--programs ZH_CASES ZHCOUNT] [FILE.case ..]` runs these files, or all, several at once, with the proved programs or others.
+For each it prints how many cases and turns it has, or what is wrong with it."""
 import argparse
 import os
 import re
@@ -15,7 +16,7 @@ from contextlib import suppress
 from itertools import product, repeat
 from pathlib import Path
 
-from places import CASES, PROGRAM_OF_CASES
+from places import CASES, PROGRAMS_OF_CASES
 
 # A line of a text; a file in it is one line, `file NAME` and the file's lines.
 Line = namedtuple("Line", "number text")
@@ -224,19 +225,24 @@ def asked(turn, read):
         return word, *question(read(rest).decode())
     if word == "lot":
         return word, *question(rest)
-    if word in ("zhcount", "within"):
-        limit, _, given = turn.partition("zhcount")
+    if word == "within":
+        limit, _, given = rest.partition("zhcount")
         arguments, _, name = given.partition("<")
-        found = limits(word, limit.removeprefix("within ").strip()) if limit else []
-        return word, *found, name.strip() or "-", *arguments.split()
+        return word, *limits(word, limit.strip()), name.strip() or "-", *arguments.split()
     return {"save": "image", "load": "disk"}.get(word, word), *rest.split()
+
+
+def written_lines(said):
+    """The lines of what a program wrote, without their ends."""
+    return [it.removesuffix("\r") for it in said.decode().removesuffix("\n").split("\n")] if said else []
 
 
 class Run:
     """A run of a file of cases, in a folder that has its set-ups."""
 
-    def __init__(self, program, setups, folder, environment):
+    def __init__(self, programs, setups, folder, environment):
         self.setups, self.folder, self.reports = setups, folder, []
+        program, self.zhcount = programs
         # The cell of a sweep, whether the rest of a case is left out, and what disk and count held at `hold`.
         self.cell, self.is_over, self.held = "", False, (b"", b"")
         pipes = {"stdin": subprocess.PIPE, "stdout": subprocess.PIPE, "stderr": subprocess.PIPE}
@@ -299,10 +305,20 @@ class Run:
         elif word == "back":
             self.cell = f" at {rest}"
             return self.ask(word)
+        elif word == "zhcount":
+            return self.run(rest)
         else:
             found = self.ask(*refuse, *asked(turn, self.read))
             return found.rpartition("; ")[0] if word == "csv" and " " not in rest and found.endswith(" left") else found
         return "ok"
+
+    def run(self, given):
+        """The status of a run of zhcount, the lines of its output, and those of its standard error."""
+        arguments, _, name = given.partition("<")
+        text = self.read(name.strip()) if name else b""
+        ran = subprocess.run([self.zhcount, *arguments.split()], input=text, cwd=self.folder, capture_output=True)
+        said = [f"{before}{it}" for before, out in (("; ", ran.stdout), (" | ", ran.stderr)) for it in written_lines(out)]
+        return "".join([str(ran.returncode), *said])
 
     def holding(self):
         """The bytes of the disk, and those of the count of the office that is open, or none."""
@@ -352,8 +368,8 @@ class Run:
         return opened == "ok" and at_once == before <= accepted <= before + 1
 
 
-def run(path, program, folder, environment=None):
-    """Runs a file of cases in a folder, up to its first fault. Its set-ups are next to it."""
+def run(path, programs, folder, environment=None):
+    """Runs a file of cases in a folder, up to its first fault, with zh_cases and zhcount. Its set-ups are next to it."""
     lines, fault, reports, name = [], "", [], path.name
     folder.mkdir(exist_ok=True)
     try:
@@ -361,7 +377,7 @@ def run(path, program, folder, environment=None):
         setups = [*dict.fromkeys(it.text[6:] for it in lines if it.text.startswith("setup "))]
         for name in {*setups} - {"rehearsal"}:
             (folder / name).write_text("\n".join(repeated((path.parent / name).read_text().split("\n"))))
-        name, it = path.name, Run(program, setups, folder, environment)
+        name, it = path.name, Run(programs, setups, folder, environment)
         reports = it.reports
         with it.program:
             for number, text in lines:
@@ -374,12 +390,13 @@ def run(path, program, folder, environment=None):
 
 def main():
     parser = argparse.ArgumentParser(description=__doc__, formatter_class=argparse.RawDescriptionHelpFormatter)
-    parser.add_argument("--program", type=Path, default=PROGRAM_OF_CASES)
+    parser.add_argument("--programs", type=Path, nargs=2, default=PROGRAMS_OF_CASES)
     parser.add_argument("names", metavar="FILE.case", nargs="*")
     given = parser.parse_args()
     paths, right = [CASES / it for it in given.names] or sorted(CASES.glob("*.case")), []
+    programs = [it.resolve() for it in given.programs]
     with tempfile.TemporaryDirectory() as room, ProcessPoolExecutor(len(os.sched_getaffinity(0))) as pool:
-        for path, it in zip(paths, pool.map(run, paths, repeat(given.program.resolve()), (Path(room, it.stem) for it in paths))):
+        for path, it in zip(paths, pool.map(run, paths, repeat(programs), (Path(room, it.stem) for it in paths))):
             right += [] if it.fault else [it]
             print(it.fault or f"{path.name}: {it.cases} cases, {it.turns} turns", file=sys.stderr if it.fault else sys.stdout, flush=True)
     print(f"all: {sum(it.cases for it in right)} cases, {sum(it.turns for it in right)} turns")

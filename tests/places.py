@@ -7,4 +7,4 @@ PROGRAM = pathlib.Path(os.environ.get("ZHCOUNT") or TOP / "crates/zhcount/out/zh
 CASES = TOP / "crates/zh_cases/data"
 REHEARSAL = TOP / "crates/zh_setups/data/rehearsal.toml"
 ZURICH = TOP / "examples/zurich2006"
-PROGRAM_OF_CASES = TOP / "crates/zh_cases/out/zh_cases"
+PROGRAMS_OF_CASES = TOP / "crates/zh_cases/out/zh_cases", PROGRAM

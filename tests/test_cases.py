@@ -4,7 +4,7 @@ import re
 import pytest
 
 from cases import Fault, lines_of, run
-from places import CASES, PROGRAM_OF_CASES, TOP
+from places import CASES, PROGRAMS_OF_CASES, TOP
 
 HEAD = "setup rehearsal\n\ncase a wrong one\n"
 PLACES = ("slot3", "slot1.journal", "journal", "Slot1", "+1")
@@ -14,10 +14,10 @@ TEXTS = re.split(r"\n\n(?=\S)", (TOP / "tests/written_out.txt").read_text().stri
 @pytest.mark.parametrize("build", ["", ".by-rattle"], ids=["of LLVM", "of Rattle"])
 @pytest.mark.parametrize("path", sorted(CASES.glob("*.case")), ids=lambda it: it.stem)
 def test_answers(path, build, tmp_path):
-    program = PROGRAM_OF_CASES.with_name(f"zh_cases{build}")
-    if build and not program.exists():
-        pytest.skip("rt ci has not left the program that Rattle's own compiler makes")
-    assert run(path, program, tmp_path).fault == ""
+    programs = [it.with_name(it.name + build) for it in PROGRAMS_OF_CASES]
+    if build and not all(it.exists() for it in programs):
+        pytest.skip("rt ci has not left the programs that Rattle's own compiler makes")
+    assert run(path, programs, tmp_path).fault == ""
 
 
 @pytest.mark.parametrize("text, fault", [
@@ -28,7 +28,7 @@ def test_answers(path, build, tmp_path):
 ], ids=[*PLACES, "a wrong answer", "a wrong answer in a cell", "no such turn"])
 def test_refused(text, fault, tmp_path):
     (tmp_path / "wrong.case").write_text(text)
-    assert run(tmp_path / "wrong.case", PROGRAM_OF_CASES, tmp_path).fault.startswith(f"wrong.case:{fault}")
+    assert run(tmp_path / "wrong.case", PROGRAMS_OF_CASES, tmp_path).fault.startswith(f"wrong.case:{fault}")
 
 
 @pytest.mark.parametrize("text", TEXTS)

@@ -5,7 +5,7 @@ import itertools
 import pytest
 
 from cases import lines_of, run
-from places import CASES, PROGRAM_OF_CASES
+from places import CASES, PROGRAMS_OF_CASES
 from refusing import Preloaded
 
 TURNS = 16
@@ -15,10 +15,10 @@ def faults_of_turns(path, room, library):
     """What is wrong where each allocation of each turn `refuse` of a file of cases is refused (docs/CASES.md). A run refuses those of one
     number to every sixteenth of these turns, so that an office that was opened anew serves between. Each turn has to report one."""
     preloaded, found, reported = Preloaded(library, room), [], set()
-    assert run(path, PROGRAM_OF_CASES, room, preloaded.environment(WITHIN="refuse"))[2:] == ("", [])
+    assert run(path, PROGRAMS_OF_CASES, room, preloaded.environment(WITHIN="refuse"))[2:] == ("", [])
     for turn in range(TURNS):
         for number in itertools.count(1):
-            it = run(path, PROGRAM_OF_CASES, room, preloaded.environment(REFUSE=number, TURN=turn, TURNS=TURNS, WITHIN="refuse"))
+            it = run(path, PROGRAMS_OF_CASES, room, preloaded.environment(REFUSE=number, TURN=turn, TURNS=TURNS, WITHIN="refuse"))
             if not preloaded.reached.exists():
                 break
             found += [f"allocation {number}: {it.fault}"] if it.fault else []

@@ -1,29 +1,18 @@
-//! Makes the turns of cases: on an office and its disk, on questions, and by runs of the program. `tests/cases.py` reads the
-//! cases (docs/CASES.md), sends each turn and compares its answer.
+//! Makes the turns of cases: those of `zh_turns`, and runs of the program in memory. `tests/cases.py` reads the cases
+//! (docs/CASES.md), sends each turn and compares its answer.
 //!
 //! The arguments name files with set-ups; `rehearsal` is the set-up of the rehearsal. Each line of standard input is a turn,
 //! and its answer is a line of standard output. If a turn can't be made, the reason goes to standard error, and the status is 1.
 #![tactic(auto)]
 
-mod answer;
-mod disk;
-mod fault;
-mod fixture;
-mod numbers;
-mod question;
-mod reason;
 mod runs;
-mod streams;
-mod texts;
-mod turn;
 
-use fault::CaseFault;
-use fixture::Fixture;
+use runs::run_within;
 use std::process::ExitCode;
 use std::{env, fs};
-use turn::make;
 use zh_districts::Setup;
 use zh_setups::{read_setup, rehearsal};
+use zh_turns::{CaseFault, Fixture, make};
 
 fn main(rt: HostRuntime) -> ExitCode {
     match run(&rt) {
@@ -55,18 +44,22 @@ fn setups_of(rt: &HostRuntime) -> Result<Vec<Setup>, CaseFault> {
     Ok(setups)
 }
 
+/// Makes a turn and prints its answer.
+fn make_turn(rt: &HostRuntime, fixture: &mut Fixture<'_>, turn: &str) -> Result<(), CaseFault> {
+    let mut answer = String::new(rt.alloc());
+    match turn.strip_prefix("within ") {
+        Some(given) => run_within(rt, fixture, given, &mut answer)?,
+        None => make(fixture, turn, &mut answer)?,
+    }
+    println!(rt; "{answer}")?;
+    Ok(())
+}
+
 /// Makes the turns of standard input.
 fn make_turns(rt: &HostRuntime, fixture: &mut Fixture<'_>) -> Result<(), CaseFault> {
     for line in rt.lines(rt.alloc()) {
         make_turn(rt, fixture, line?.as_str())?;
     }
-    Ok(())
-}
-
-/// Makes a turn and prints its answer.
-fn make_turn(rt: &HostRuntime, fixture: &mut Fixture<'_>, turn: &str) -> Result<(), CaseFault> {
-    let answer = make(fixture, turn)?;
-    println!(rt; "{answer}")?;
     Ok(())
 }
 

@@ -4,12 +4,12 @@ ghost use Rattle.zh_decided.specs.Ways.{AreBalanced};
 ghost use Rattle.zh_matrices.specs.Asked.{asked};
 ghost use Rattle.zh_matrices.specs.Question.{AreSeatTotals, EachColumnHasVotes, HasVotes, column_votes, question};
 
-use crate::answer::{found, impossible, ranges, with_divisors, with_seats};
+use crate::answer::{push_findings, push_found, push_impossible, push_ranges, push_seats};
 use crate::fault::CaseFault;
 use crate::fixture::Fixture;
-use crate::texts::{numbers_in, with_numbers};
+use crate::texts::numbers_in;
 use std::alloc::{AllocError, Global};
-use zh_decided::{Decision, DecisionRoom, are_balanced, decide};
+use zh_decided::{Decision, DecisionRoom, Findings, are_balanced, decide};
 use zh_lower::{LowerFault, Matrix, NoLower, find, find_or_reason, lot};
 use zh_matrices::Question;
 
@@ -69,34 +69,72 @@ fn each_column_has_votes(question: &Question<'_>) -> bool
     true
 }
 
-/// The result of a decision. If it has seats, they come with their divisors if the decision alone was asked; otherwise
+/// Appends the result of a decision. If it has seats, they come with their divisors if the decision alone was asked; otherwise
 /// they come after `missed`, because the search did not find them.
-fn decided(alloc: Global, question: &Question<'_>, whom: Whom) -> Result<String, AllocError>
+fn push_decision(
+    answer: &mut String,
+    decision: Decision,
+    findings: &Findings,
+    question: &Question<'_>,
+    whom: Whom,
+) -> Result<(), AllocError>
+    requires some_column { 1 ≤ question.now.columns }
+    requires few_rows { question.now.rows ≤ 32 }
+{
+    match decision {
+        Decision::Impossible(marked) => push_impossible(answer, &marked, question.rows as u32),
+        Decision::NearlyTied(row, column, _) => write!(answer, "nearly tied {row} {column}"),
+        Decision::Beyond(_) => push_seats(answer, "beyond", &findings.seats, question.columns),
+        Decision::Seats => match whom {
+            Whom::Decision => push_findings(answer, findings, question.columns),
+            _ => push_seats(answer, "missed", &findings.seats, question.columns),
+        },
+    }
+}
+
+/// Appends the result of the decision of a question.
+fn push_decided(
+    alloc: Global,
+    question: &Question<'_>,
+    whom: Whom,
+    answer: &mut String,
+) -> Result<(), AllocError>
     requires some_column { 1 ≤ question.now.columns }
     requires totals { AreSeatTotals question.now.rows question.now.row_totals.now }
     requires balanced { AreBalanced (asked question.now) }
 {
     let mut room = DecisionRoom::new(alloc, question.rows, question.columns)?;
-    match decide(question, &mut room) {
-        Decision::Impossible(marked) => impossible(alloc, &marked, question.rows as u32),
-        Decision::NearlyTied(row, column, _) => {
-            with_numbers(alloc, "nearly tied", &[u64::from(row), u64::from(column)])
-        }
-        Decision::Beyond(_) => with_seats(alloc, "beyond", &room.findings.seats, question.columns),
-        Decision::Seats => match whom {
-            Whom::Decision => with_divisors(alloc, &room.findings, question.columns),
-            _ => with_seats(alloc, "missed", &room.findings.seats, question.columns),
-        },
+    let decision = decide(question, &mut room);
+    push_decision(answer, decision, &room.findings, question, whom)
+}
+
+/// Appends why the search found no seats. Where it is exhausted, the decision says why.
+fn push_fault(
+    alloc: Global,
+    fault: LowerFault,
+    question: &Question<'_>,
+    answer: &mut String,
+) -> Result<(), AllocError>
+    requires some_column { 1 ≤ question.now.columns }
+    requires totals { AreSeatTotals question.now.rows question.now.row_totals.now }
+    requires balanced { AreBalanced (asked question.now) }
+{
+    match fault {
+        LowerFault::Memory => Err(AllocError),
+        LowerFault::NoVotes(row) => write!(answer, "no votes {row}"),
+        LowerFault::Tied(row, column) => write!(answer, "tied {row} {column}"),
+        LowerFault::Exhausted => push_decided(alloc, question, Whom::Searches, answer),
     }
 }
 
-/// The result of the search for votes with these totals.
-fn searched(
+/// Appends the result of the search for votes with these totals.
+fn push_searched(
     alloc: Global,
     matrix: &Matrix,
     row_totals: &[u32],
     column_totals: &[u32],
-) -> Result<String, AllocError>
+    answer: &mut String,
+) -> Result<(), AllocError>
     requires few_rows { matrix.now.rows ≤ 32 }
     requires some_column { 1 ≤ matrix.now.columns }
     requires few_columns { matrix.now.columns ≤ 32 }
@@ -107,26 +145,24 @@ fn searched(
 {
     let (rows, columns) = (row_totals.len() as u32, column_totals.len() as u32);
     match find(alloc, matrix, row_totals, column_totals) {
-        Ok(lower) => found(alloc, &lower, rows, columns),
-        Err(LowerFault::Memory) => Err(AllocError),
-        Err(LowerFault::NoVotes(row)) => with_numbers(alloc, "no votes", &[u64::from(row)]),
-        Err(LowerFault::Tied(row, column)) => {
-            with_numbers(alloc, "tied", &[u64::from(row), u64::from(column)])
-        }
-        Err(LowerFault::Exhausted) => {
-            let question = matrix.question(row_totals, column_totals);
-            decided(alloc, &question, Whom::Searches)
-        }
+        Ok(lower) => push_found(answer, &lower, rows, columns),
+        Err(fault) => push_fault(
+            alloc,
+            fault,
+            &matrix.question(row_totals, column_totals),
+            answer,
+        ),
     }
 }
 
-/// The fewest and the most seats of each cell, if the search ends in a tie.
-fn drawn(
+/// Appends the fewest and the most seats of each cell, if the search ends in a tie.
+fn push_drawn(
     alloc: Global,
     matrix: &Matrix,
     row_totals: &[u32],
     column_totals: &[u32],
-) -> Result<String, AllocError>
+    answer: &mut String,
+) -> Result<(), AllocError>
     requires some_column { 1 ≤ matrix.now.columns }
     requires row_totals { AreSeatTotals matrix.now.rows row_totals.now }
     requires column_totals { AreSeatTotals matrix.now.columns column_totals.now }
@@ -135,10 +171,10 @@ fn drawn(
     match find_or_reason(alloc, matrix, row_totals, column_totals) {
         Err(NoLower::Tied(tie)) => {
             let question = matrix.question(row_totals, column_totals);
-            ranges(alloc, &lot(alloc, &question, &tie)?, question.columns)
+            push_ranges(answer, &lot(alloc, &question, &tie)?, question.columns)
         }
         Err(NoLower::Memory) => Err(AllocError),
-        _ => String::from_str(alloc, "no tie"),
+        _ => answer.push_str("no tie"),
     }
 }
 
@@ -151,14 +187,44 @@ fn totals_in(alloc: Global, numbers: &[u64]) -> Result<Vec<u32>, AllocError> {
     Ok(totals)
 }
 
-/// The answer to the question with these totals and votes, row by row.
-fn asked_of(
+/// Appends the answer to a question about these votes.
+fn push_of_matrix(
+    alloc: Global,
+    whom: Whom,
+    matrix: &Matrix,
+    row_totals: &[u32],
+    column_totals: &[u32],
+    answer: &mut String,
+) -> Result<(), CaseFault>
+    requires few_rows { matrix.now.rows ≤ 32 }
+    requires some_column { 1 ≤ matrix.now.columns }
+    requires few_columns { matrix.now.columns ≤ 32 }
+    requires row_totals { AreSeatTotals matrix.now.rows row_totals.now }
+    requires column_totals { AreSeatTotals matrix.now.columns column_totals.now }
+{
+    let question = matrix.question(row_totals, column_totals);
+    if !each_column_has_votes(&question) || !are_balanced(&question) {
+        return Err(CaseFault::Text(
+            "each column has votes, and rows and columns are to get as many seats",
+        ));
+    }
+    match whom {
+        Whom::Searches => push_searched(alloc, matrix, row_totals, column_totals, answer)?,
+        Whom::Decision => push_decided(alloc, &question, whom, answer)?,
+        Whom::Lot => push_drawn(alloc, matrix, row_totals, column_totals, answer)?,
+    }
+    Ok(())
+}
+
+/// Appends the answer to the question with these totals and votes, row by row.
+fn push_of_totals(
     alloc: Global,
     whom: Whom,
     row_totals: &[u32],
     column_totals: &[u32],
     votes: &[u64],
-) -> Result<String, CaseFault> {
+    answer: &mut String,
+) -> Result<(), CaseFault> {
     let (rows, columns) = (row_totals.len(), column_totals.len());
     if !are_totals(row_totals) || !are_totals(column_totals) {
         return Err(CaseFault::Text("there are 1 to 32 rows and columns, each with 1 to 400 seats"));
@@ -167,22 +233,17 @@ fn asked_of(
         return Err(CaseFault::Text("each row has the votes of each column, at most 10^14"));
     }
     let matrix = Matrix::new(alloc, rows, columns, votes)?;
-    let question = matrix.question(row_totals, column_totals);
-    if !each_column_has_votes(&question) || !are_balanced(&question) {
-        return Err(CaseFault::Text(
-            "each column has votes, and rows and columns are to get as many seats",
-        ));
-    }
-    match whom {
-        Whom::Searches => Ok(searched(alloc, &matrix, row_totals, column_totals)?),
-        Whom::Decision => Ok(decided(alloc, &question, whom)?),
-        Whom::Lot => Ok(drawn(alloc, &matrix, row_totals, column_totals)?),
-    }
+    push_of_matrix(alloc, whom, &matrix, row_totals, column_totals, answer)
 }
 
-/// The answer to the question in these numbers: how many rows and columns there are, the seats of each row and of each column,
-/// and the votes, row by row.
-fn answer_to(alloc: Global, whom: Whom, numbers: &[u64]) -> Result<String, CaseFault> {
+/// Appends the answer to the question in these numbers: how many rows and columns there are, the seats of each row and of each
+/// column, and the votes, row by row.
+fn push_answer(
+    alloc: Global,
+    whom: Whom,
+    numbers: &[u64],
+    answer: &mut String,
+) -> Result<(), CaseFault> {
     let [rows, columns, rest @ ..] = numbers else {
         return Err(CaseFault::Text("a question has rows and columns"));
     };
@@ -194,22 +255,28 @@ fn answer_to(alloc: Global, whom: Whom, numbers: &[u64]) -> Result<String, CaseF
         return Err(CaseFault::Text("a question has a total for each column"));
     };
     let (of_rows, of_columns) = (totals_in(alloc, of_rows)?, totals_in(alloc, of_columns)?);
-    asked_of(alloc, whom, &of_rows, &of_columns, votes)
+    push_of_totals(alloc, whom, &of_rows, &of_columns, votes, answer)
 }
 
-/// The answer to a question.
+/// Answers the question in these numbers.
 ///
-/// It is `seats`, row by row, with the divisors of the rows and of the columns in millionths; `no votes` with a row; `tied` with
-/// a row and a column; or, if the search is exhausted, the reason: `impossible` with the rows, `nearly tied` with a row and a
-/// column, or `beyond` or `missed` with the seats. The decision answers `seats` with its own divisors, or a reason other than
-/// `missed`. The lot answers `least` and `most` with seats, or `no tie`.
-pub(crate) fn ask(fixture: &Fixture<'_>, whom: Whom, numbers: &str) -> Result<String, CaseFault> {
+/// The answer is `seats`, row by row, with the divisors of the rows and of the columns in millionths; `no votes` with a row;
+/// `tied` with a row and a column; or, if the search is exhausted, the reason: `impossible` with the rows, `nearly tied` with a
+/// row and a column, or `beyond` or `missed` with the seats. The decision answers `seats` with its own divisors, or a reason
+/// other than `missed`. The lot answers `least` and `most` with seats, or `no tie`.
+pub(crate) fn ask(
+    fixture: &mut Fixture<'_>,
+    whom: Whom,
+    numbers: &str,
+    answer: &mut String,
+) -> Result<(), CaseFault> {
     let numbers = numbers_in(fixture.alloc, numbers)?;
-    let mark = fixture.refusing()?;
-    let answer = answer_to(fixture.alloc, whom, &numbers);
-    drop(mark);
-    match answer {
-        Err(CaseFault::Memory(_)) => Ok(String::from_str(fixture.alloc, "memory")?),
-        answer => answer,
+    fixture.begin()?;
+    let answered = push_answer(fixture.alloc, whom, &numbers, answer);
+    fixture.end();
+    if let Err(CaseFault::Memory(_)) = answered {
+        answer.clear();
+        return Ok(answer.push_str("memory")?);
     }
+    answered
 }

@@ -3,7 +3,7 @@ ghost use Rattle.std.specs.Prelude.{◌≤◌, ◌<◌, ◌^◌, All, Any, IsTru
 ghost use Rattle.zh_divisors.specs.Line.{IsMatrixLine};
 
 use crate::fault::CaseFault;
-use crate::texts::{numbers_in, push_number, push_numbers};
+use crate::texts::numbers_in;
 use std::alloc::{AllocError, Global};
 use zh_divisors::{ShareFault, Shares, Weights, apportion, line};
 
@@ -33,11 +33,10 @@ fn is_line(votes: &[u64], others: &[u64]) -> bool
         && others.iter().all(|o| (1..=LARGEST).contains(o))
 }
 
-/// The divisor of a line, in millionths. The text has the line's seats, the largest divisor allowed, the votes of the cells, and
-/// the divisors of the lines that cross there.
-pub(crate) fn divisor(alloc: Global, text: &str) -> Result<String, CaseFault> {
-    let numbers = numbers_in(alloc, text)?;
-    let [target, most, cells @ ..] = numbers.as_slice() else {
+/// Appends the divisor of a line, in millionths. The numbers are the line's seats, the largest divisor allowed, the votes of the
+/// cells, and the divisors of the lines that cross there.
+fn push_divisor(numbers: &[u64], answer: &mut String) -> Result<(), CaseFault> {
+    let [target, most, cells @ ..] = numbers else {
         return Err(CaseFault::Text("a line has seats and a largest divisor"));
     };
     let (votes, others) = cells.split_at(cells.len() / 2);
@@ -45,33 +44,40 @@ pub(crate) fn divisor(alloc: Global, text: &str) -> Result<String, CaseFault> {
         return Err(CaseFault::Text("this is no line"));
     }
     let divisor = line(votes, others, *target as u32, *most);
-    Ok(format!(in alloc; "{divisor}")?)
+    Ok(write!(answer, "{divisor}")?)
 }
 
-/// The seats of a house and their divisor, as its numerator and its denominator; or `tied`. The text has the house's seats and
-/// the weights.
-pub(crate) fn shares(alloc: Global, text: &str) -> Result<String, CaseFault> {
-    let numbers = numbers_in(alloc, text)?;
-    let [house, weights @ ..] = numbers.as_slice() else {
+/// Answers with the divisor of the line in these numbers.
+pub(crate) fn divisor(alloc: Global, text: &str, answer: &mut String) -> Result<(), CaseFault> {
+    push_divisor(&numbers_in(alloc, text)?, answer)
+}
+
+/// Appends the seats of shares, and their divisor.
+fn push_shares(shares: &Shares, answer: &mut String) -> Result<(), AllocError> {
+    answer.push_str("seats")?;
+    for seats in shares.seats() {
+        write!(answer, " {seats}")?;
+    }
+    write!(answer, "; divisor {} {}", shares.num(), shares.den())
+}
+
+/// Appends the seats of a house and their divisor, as its numerator and its denominator; or `tied`. The numbers are the house's
+/// seats and the weights.
+fn push_house(alloc: Global, numbers: &[u64], answer: &mut String) -> Result<(), CaseFault> {
+    let [house, weights @ ..] = numbers else {
         return Err(CaseFault::Text("a house has seats"));
     };
     if !are_weights(weights) || !(1..=400).contains(house) {
         return Err(CaseFault::Text("these are no weights"));
     }
     match apportion(alloc, &Weights::new(alloc, weights)?, *house as u32) {
-        Ok(shares) => Ok(spelled(alloc, &shares)?),
-        Err(ShareFault::Tied) => Ok(String::from_str(alloc, "tied")?),
-        Err(ShareFault::Memory) => Ok(String::from_str(alloc, "memory")?),
+        Ok(shares) => Ok(push_shares(&shares, answer)?),
+        Err(ShareFault::Tied) => Ok(answer.push_str("tied")?),
+        Err(ShareFault::Memory) => Ok(answer.push_str("memory")?),
     }
 }
 
-/// The seats of shares, and their divisor.
-fn spelled(alloc: Global, shares: &Shares) -> Result<String, AllocError> {
-    let mut text = String::from_str(alloc, "seats")?;
-    for seats in shares.seats() {
-        push_number(&mut text, u64::from(*seats))?;
-    }
-    text.push_str("; divisor")?;
-    push_numbers(&mut text, &[shares.num(), u64::from(shares.den())])?;
-    Ok(text)
+/// Answers with the seats of the house in these numbers.
+pub(crate) fn shares(alloc: Global, text: &str, answer: &mut String) -> Result<(), CaseFault> {
+    push_house(alloc, &numbers_in(alloc, text)?, answer)
 }

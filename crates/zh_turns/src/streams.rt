@@ -1,12 +1,19 @@
 //! An input that gives one byte per read, and an output that takes a limited number of bytes per write. Both can fail.
 
+use std::alloc::Global;
 use std::io::{self, ErrorKind, Read, Write};
 
 /// Gives the bytes of a text one by one, and fails after `left` bytes.
 #[derive(Drop)]
-pub(crate) struct SlowInput<'a> {
+pub struct SlowInput<'a> {
     pub(crate) text: &'a [u8],
-    pub(crate) left: u64,
+    left: u64,
+}
+
+impl SlowInput<'_> {
+    pub fn new(text: &[u8], left: u64) -> SlowInput<'_> {
+        SlowInput { text, left }
+    }
 }
 
 impl Read for SlowInput<'_> {
@@ -29,11 +36,21 @@ impl Read for SlowInput<'_> {
 
 /// Takes bytes from each write, and fails after `left` writes.
 #[derive(Drop)]
-pub(crate) struct SlowOutput {
-    pub(crate) bytes: Vec<u8>,
-    pub(crate) left: u64,
+pub struct SlowOutput {
+    pub bytes: Vec<u8>,
+    left: u64,
     /// The most bytes that one write takes.
-    pub(crate) takes: usize,
+    takes: usize,
+}
+
+impl SlowOutput {
+    pub fn new(alloc: Global, left: u64, takes: usize) -> SlowOutput {
+        SlowOutput {
+            bytes: Vec::new(alloc),
+            left,
+            takes,
+        }
+    }
 }
 
 impl Write for SlowOutput {

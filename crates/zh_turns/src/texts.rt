@@ -1,14 +1,28 @@
 //! Numbers in turns, and the lines of answers.
 
 use crate::fault::CaseFault;
-use itoa::Buffer;
+use hex::decode;
 use std::alloc::{AllocError, Global};
+use std::str::{self, SplitWhitespace};
+
+/// The first word of a text, and the rest after a space.
+pub(crate) fn parted(text: &str) -> (&str, &str) {
+    text.split_once(' ').unwrap_or((text, ""))
+}
 
 /// Reads a decimal number.
 pub(crate) fn number(word: &str) -> Result<u64, CaseFault> {
     match word.parse::<u64>() {
         Ok(number) => Ok(number),
         Err(_) => Err(CaseFault::Text("this is no number")),
+    }
+}
+
+/// The number that comes next.
+pub fn next_number(words: &mut SplitWhitespace<'_>) -> Result<u64, CaseFault> {
+    match words.next() {
+        Some(word) => number(word),
+        None => Err(CaseFault::Text("a number is missing")),
     }
 }
 
@@ -21,37 +35,24 @@ pub(crate) fn numbers_in(alloc: Global, text: &str) -> Result<Vec<u64>, CaseFaul
     Ok(numbers)
 }
 
-/// Appends a space and a number.
-pub(crate) fn push_number(text: &mut String, number: u64) -> Result<(), AllocError> {
-    text.push(' ')?;
-    text.push_str(Buffer::new().format(number))
+/// The bytes that these hexadecimal digits spell.
+pub(crate) fn bytes_of(alloc: Global, digits: &str) -> Result<Vec<u8>, CaseFault> {
+    match decode(alloc, digits) {
+        Ok(bytes) => Ok(bytes),
+        Err(_) => Err(CaseFault::Text("these are no bytes")),
+    }
 }
 
 /// Appends numbers, each after a space.
 pub(crate) fn push_numbers(text: &mut String, numbers: &[u64]) -> Result<(), AllocError> {
     for number in numbers {
-        push_number(text, *number)?;
+        write!(text, " {number}")?;
     }
     Ok(())
 }
 
-/// A word with numbers, each after a space.
-pub(crate) fn with_numbers(
-    alloc: Global,
-    word: &str,
-    numbers: &[u64],
-) -> Result<String, AllocError> {
-    let mut text = String::from_str(alloc, word)?;
-    push_numbers(&mut text, numbers)?;
-    Ok(text)
-}
-
 /// Appends the lines of a text, each after the separator. An empty answer gets no separator before the first line.
-pub(crate) fn push_lines(
-    answer: &mut String,
-    separator: &str,
-    text: &[u8],
-) -> Result<(), CaseFault> {
+pub fn push_lines(answer: &mut String, separator: &str, text: &[u8]) -> Result<(), CaseFault> {
     let Ok(text) = str::from_utf8(text) else {
         return Err(CaseFault::Text("an answer is no text"));
     };
@@ -62,11 +63,4 @@ pub(crate) fn push_lines(
         answer.push_str(line)?;
     }
     Ok(())
-}
-
-/// The lines of a text, with `; ` between them.
-pub(crate) fn lines_in(alloc: Global, text: &[u8]) -> Result<String, CaseFault> {
-    let mut lines = String::new(alloc);
-    push_lines(&mut lines, "; ", text)?;
-    Ok(lines)
 }
