@@ -5,6 +5,7 @@ mod LineLemmas
 mod PlaceLemmas
 mod QuotientLemmas
 mod ReachedLemmas
+mod SliceLemmas
 mod StateLemmas
 mod TieLemmas
 mod ExtremeLemmas

@@ -1,17 +1,17 @@
-use Rattle.std.proofs.Common.{◌≡◌, ◌++◌, take, drop, length, true, rules, arith, sym, ◌∙◌}
-use Rattle.std.proofs.lemmas.Grind.{common_steps}
-use Rattle.std.proofs.lemmas.Bool.{OnTrue_from, false≢true, not-false}
+use Rattle.std.proofs.Common.{◌≡◌, ◌++◌, take, drop, length, true, arith, sym, ◌∙◌}
+use Rattle.std.proofs.lemmas.Bool.{OnTrue_from, false≢true}
 use Rattle.zh_matrices.specs.Asked.{asked}
 use Rattle.zh_matrices.specs.Divisors.{millionths}
 use Rattle.zh_lower.specs.Rooms.{divisors_in}
 use Rattle.zh_lower.proofs.SecondLemmas.{follow-false, none-middle, none-strict, only_strict, within-of}
+use Rattle.zh_lower.proofs.SliceLemmas.{written_whole}
 use Rattle.zh_lower.proofs.divisors.find_within.Goals as goal
 
 pub gives_from-requires-clause-only : goal.gives_from-requires-clause-only
 gives_from-requires-clause-only c =
-    let rows : c.deref.result.now ≡ c.settle.new.of_rows = first_of (search rules, grind (arith, common_steps), cc) in
-    let columns : c.deref-2.result.now ≡ c.settle.new.of_columns = first_of (search rules, grind (arith, common_steps), cc) in
-    let passed : c.follows.result ≡ true = first_of (search (rules, not-false), grind arith, cc) in
+    let rows : c.deref.result.now ≡ c.settle.new.of_rows = c.deref.ensures.value ∙ written_whole _ _ _ (omega arith) in
+    let columns : c.deref-2.result.now ≡ c.settle.new.of_columns = c.deref-2.ensures.value ∙ written_whole _ _ _ (omega arith) in
+    let passed : c.follows.result ≡ true = c.if-not-follows.false in
     only_strict (asked c.args.proposal.now.question.now) (millionths c.settle.new.of_rows c.settle.new.of_columns) c.args.proposal.now.seats.now (rw (rows, columns) at (c.follows.ensures.0 passed))
 
 pub returns-then-not-settle-clause-none : goal.returns-then-not-settle-clause-none
@@ -19,18 +19,18 @@ returns-then-not-settle-clause-none c = λ x second. c.if-not-settle.ensures.out
 
 pub returns-then-not-follows-clause-none : goal.returns-then-not-follows-clause-none
 returns-then-not-follows-clause-none c =
-    let rows : c.deref.result.now ≡ c.settle.new.of_rows = first_of (search rules, grind (arith, common_steps), cc) in
-    let columns : c.deref-2.result.now ≡ c.settle.new.of_columns = first_of (search rules, grind (arith, common_steps), cc) in
+    let rows : c.deref.result.now ≡ c.settle.new.of_rows = c.deref.ensures.value ∙ written_whole _ _ _ (omega arith) in
+    let columns : c.deref-2.result.now ≡ c.settle.new.of_columns = c.deref-2.ensures.value ∙ written_whole _ _ _ (omega arith) in
     none-strict (asked c.args.proposal.now.question.now) c.args.top c.args.proposal.now.seats.now c.settle.new.of_rows c.settle.new.of_columns c.settle.ensures.rows.one_each
     c.settle.ensures.columns.one_each c.if-not-settle.ensures.rounds (λ strict. false≢true (sym c.if-not-follows.true ∙ c.follows.ensures.1 (rw (rows, columns) strict)))
 
 pub returns-clause-second : goal.returns-clause-second
 returns-clause-second c =
-    let rows : c.deref.result.now ≡ c.settle.new.of_rows = first_of (search rules, grind (arith, common_steps), cc) in
-    let columns : c.deref-2.result.now ≡ c.settle.new.of_columns = first_of (search rules, grind (arith, common_steps), cc) in
+    let rows : c.deref.result.now ≡ c.settle.new.of_rows = c.deref.ensures.value ∙ written_whole _ _ _ (omega arith) in
+    let columns : c.deref-2.result.now ≡ c.settle.new.of_columns = c.deref-2.ensures.value ∙ written_whole _ _ _ (omega arith) in
     let taken : take c.args.room.now.greatest.len (c.settle.new.of_columns ++ drop (length c.settle.new.of_columns) c.args.room.now.greatest.items)
-    ≡ c.settle.new.of_columns = first_of (search rules, grind (arith, common_steps), cc) in
-    let passed : c.follows.result ≡ true = first_of (search (rules, not-false), grind arith, cc) in
+    ≡ c.settle.new.of_columns = written_whole _ _ _ (omega arith) in
+    let passed : c.follows.result ≡ true = c.if-not-follows.false in
     OnTrue_from c.gives_from.result _ (λ gives.
     within-of (asked c.args.proposal.now.question.now) c.args.top c.args.proposal.now.seats.now c.settle.new.of_rows c.settle.new.of_columns
     (divisors_in c.gives_from.new.room) c.settle.ensures.enclose c.settle.ensures.rows c.settle.ensures.columns
@@ -39,7 +39,7 @@ returns-clause-second c =
 pub returns-clause-none : goal.returns-clause-none
 returns-clause-none c =
     let taken : take c.args.room.now.greatest.len (c.settle.new.of_columns ++ drop (length c.settle.new.of_columns) c.args.room.now.greatest.items)
-    ≡ c.settle.new.of_columns = first_of (search rules, grind (arith, common_steps), cc) in
+    ≡ c.settle.new.of_columns = written_whole _ _ _ (omega arith) in
     follow-false c.gives_from.result _ _
     (none-middle (asked c.args.proposal.now.question.now) c.args.top c.args.proposal.now.seats.now c.settle.new.of_rows c.settle.new.of_columns c.settle.ensures.rows.one_each
     c.settle.ensures.columns.one_each c.if-not-settle.ensures.rounds)

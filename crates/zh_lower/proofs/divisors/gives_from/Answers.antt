@@ -1,17 +1,17 @@
-use Rattle.std.proofs.Common.{◌≡◌, ◌++◌, ◌^◌, take, drop, length, arith, rules}
+use Rattle.std.proofs.Common.{◌≡◌, ◌++◌, ◌^◌, take, drop, length, ◌∙◌, arith}
 use Rattle.std.proofs.lemmas.Bool.{OnFalse_from}
-use Rattle.std.proofs.lemmas.Grind.{common_steps}
 use Rattle.zh_matrices.specs.Asked.{asked}
 use Rattle.zh_lower.specs.Rooms.{divisors_in}
 use Rattle.zh_lower.specs.Second.{scaled_down}
 use Rattle.zh_lower.proofs.MiddleLemmas.{scaled_down-within}
 use Rattle.zh_lower.proofs.SecondLemmas.{IsMiddle-scaled, IsMiddle-unscaled, none-in-middle}
+use Rattle.zh_lower.proofs.SliceLemmas.{written_whole}
 use Rattle.zh_lower.proofs.divisors.gives_from.Goals as goal
 
 pub middle_gives-requires-clause-columns : goal.middle_gives-requires-clause-columns
 middle_gives-requires-clause-columns c =
     let taken : take c.args.room.now.of_columns.len (c.scale_down.new.into ++ drop (length c.scale_down.new.into) c.args.room.now.of_columns.items)
-    ≡ c.scale_down.new.into = first_of (search rules, grind (arith, common_steps), cc) in
+    ≡ c.scale_down.new.into = written_whole _ _ _ (omega arith) in
     let scaled : c.scale_down.new.into ≡ scaled_down c.args.scale c.args.room.now.greatest.items = rw c.deref.ensures.value at c.scale_down.ensures in
     rw (taken, scaled)
     (scaled_down-within c.args.proposal.now.question.now.columns (10 ^ 12) (10 ^ 12) c.args.scale c.args.room.now.greatest.items (omega arith)
@@ -20,7 +20,7 @@ middle_gives-requires-clause-columns c =
 pub returns-then-middle_gives-clause-middle : goal.returns-then-middle_gives-clause-middle
 returns-then-middle_gives-clause-middle c = λ _.
     let taken : take c.args.room.now.of_columns.len (c.scale_down.new.into ++ drop (length c.scale_down.new.into) c.args.room.now.of_columns.items)
-    ≡ c.scale_down.new.into = first_of (search rules, grind (arith, common_steps), cc) in
+    ≡ c.scale_down.new.into = written_whole _ _ _ (omega arith) in
     IsMiddle-scaled (asked c.args.proposal.now.question.now) c.args.scale c.args.room.now.greatest.items c.args.proposal.now.seats.now c.scale_down.new.into
     (divisors_in c.middle_gives.new.room) (rw taken at c.middle_gives.ensures.middle) (rw c.deref.ensures.value at c.scale_down.ensures)
     (c.middle_gives.ensures.gives.0 c.if-middle_gives.true)
@@ -28,21 +28,21 @@ returns-then-middle_gives-clause-middle c = λ _.
 pub returns-clause-middle : goal.returns-clause-middle
 returns-clause-middle c = λ _.
     let taken : take c.args.room.now.of_columns.len (c.scale_down.new.into ++ drop (length c.scale_down.new.into) c.args.room.now.of_columns.items)
-    ≡ c.scale_down.new.into = first_of (search rules, grind (arith, common_steps), cc) in
+    ≡ c.scale_down.new.into = written_whole _ _ _ (omega arith) in
     IsMiddle-unscaled (asked c.args.proposal.now.question.now) c.args.scale c.args.room.now.greatest.items c.args.proposal.now.seats.now c.scale_down.new.into
     c.copy_from_slice.new.self.items
     (divisors_in c.middle_gives.new.room) (divisors_in c.middle_gives-2.new.room)
     c.middle_gives.result c.requires.only (rw taken at c.middle_gives.ensures.middle) (rw c.deref.ensures.value at c.scale_down.ensures)
     c.middle_gives.ensures.gives c.if-middle_gives.false
-    c.middle_gives-2.ensures.middle (first_of (search rules, grind (arith, common_steps), cc))
+    c.middle_gives-2.ensures.middle (c.copy_from_slice.ensures.items ∙ c.deref-2.ensures.value ∙ c.middle_gives.ensures.greatest)
 
 pub returns-clause-none : goal.returns-clause-none
 returns-clause-none c = OnFalse_from c.middle_gives-2.result _ (λ fails.
     let taken : take c.args.room.now.of_columns.len (c.scale_down.new.into ++ drop (length c.scale_down.new.into) c.args.room.now.of_columns.items)
-    ≡ c.scale_down.new.into = first_of (search rules, grind (arith, common_steps), cc) in
+    ≡ c.scale_down.new.into = written_whole _ _ _ (omega arith) in
     none-in-middle (asked c.args.proposal.now.question.now) c.args.scale c.args.room.now.greatest.items c.args.proposal.now.seats.now c.scale_down.new.into
     c.copy_from_slice.new.self.items
     (divisors_in c.middle_gives.new.room) (divisors_in c.middle_gives-2.new.room)
     c.middle_gives.result c.middle_gives-2.result (rw taken at c.middle_gives.ensures.middle) (rw c.deref.ensures.value at c.scale_down.ensures)
     c.middle_gives.ensures.gives
-    c.if-middle_gives.false c.middle_gives-2.ensures.middle (first_of (search rules, grind (arith, common_steps), cc)) c.middle_gives-2.ensures.gives fails)
+    c.if-middle_gives.false c.middle_gives-2.ensures.middle (c.copy_from_slice.ensures.items ∙ c.deref-2.ensures.value ∙ c.middle_gives.ensures.greatest) c.middle_gives-2.ensures.gives fails)

@@ -1,5 +1,4 @@
-use Rattle.std.proofs.Common.{◌≡◌, arith, inr, rules}
-use Rattle.std.proofs.lemmas.Grind.{common_steps}
+use Rattle.std.proofs.Common.{◌≡◌, ◌∙◌, refl, inr}
 use Rattle.zh_matrices.specs.Asked.{asked}
 use Rattle.zh_matrices.specs.Divisors.{millionths}
 use Rattle.zh_lower.proofs.SecondLemmas.{only_strict}
@@ -13,11 +12,16 @@ gives_from-requires-clause-only c =
 
 pub returns-clause-third : goal.returns-clause-third
 returns-clause-third c =
-    let greatest : c.copy_from_slice.new.self.items ≡ c.args.decided.now.of_columns.items = first_of (search rules, grind (arith, common_steps), cc) in
+    let greatest : c.copy_from_slice.new.self.items ≡ c.args.decided.now.of_columns.items
+    = c.copy_from_slice.ensures.items ∙ c.deref.ensures.value in
+    let rows : c.copy_from_slice-2.new.self.items ≡ c.args.decided.now.of_rows.items
+    = c.copy_from_slice-2.ensures.items ∙ c.deref-2.ensures.value in
+    let columns : c.copy_from_slice-3.new.self.items ≡ c.args.decided.now.of_columns.items
+    = c.copy_from_slice-3.ensures.items ∙ c.deref-3.ensures.value in
     record {
       seats = c.args.decided.now.seats.items;
       rows = c.args.decided.now.of_rows.items;
       columns = c.args.decided.now.of_columns.items;
       give = c.requires.give;
-      readable = inr (first_of (search rules, grind (arith, common_steps), cc), rw (greatest, c.as_slice.ensures.value) at c.if-gives_from.ensures.none);
+      readable = inr (rw (rows, columns) refl, rw (greatest, c.as_slice.ensures.value) at c.if-gives_from.ensures.none);
     }
