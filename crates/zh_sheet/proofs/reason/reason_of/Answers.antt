@@ -1,4 +1,5 @@
-use Rattle.std.proofs.Common.{refl}
+use Rattle.std.proofs.Common.{refl, arith}
+use Rattle.std.proofs.lemmas.Grind.{common_steps}
 use Rattle.zh_decided.specs.Floats.{floating}
 use Rattle.zh_sheet.proofs.reason.reason_of.Goals as goal
 
@@ -9,3 +10,16 @@ returns-in-Beyond c =
       record { rows = c.requires.rows; groups_are = refl; divisors = floating c.in-Beyond._divisors; strict = beyond.strict },
       beyond.none,
     )
+
+pub returns-in-Impossible : goal.returns-in-Impossible
+returns-in-Impossible c = rw c.in-Impossible.is at c.requires.decides
+
+pub returns-in-NearlyTied : goal.returns-in-NearlyTied
+returns-in-NearlyTied c =
+    let found = rw c.in-NearlyTied.is at c.requires.decides in
+    record {
+      possible = (c.args.decided.findings.seats.items, found.one_fits);
+      column = c.in-NearlyTied.column;
+      of_group = grind (arith, common_steps);
+      tied = record { divisors = floating c.in-NearlyTied._divisors; seats = c.args.decided.findings.seats.items; others = c.args.decided.findings.others.items; tied = found.tied };
+    }
