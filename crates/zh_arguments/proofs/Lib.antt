@@ -1,3 +1,4 @@
 mod ArgumentLemmas
 pub mod CallerLemmas
+mod RuleLemmas
 mod TableLemmas

@@ -108,30 +108,37 @@ fn or_version<'a>(task: Task<'a>, given: &ArgMatches<'_>) -> Task<'a>
     }
 }
 
-/// The refusal of a misused command.
-fn refusal(alloc: Global, misuse: Misuse) -> Result<Error, AllocError>
-    ensures { IfOk result (λ error. kind_of error ≡ kind_by misuse) }
+/// The kind of the refusal of a misused command, and its text.
+fn words_of(misuse: Misuse) -> (ErrorKind, &'static str)
+    ensures { result.0 ≡ kind_by misuse }
 {
-    let mut program = zhcount(alloc)?;
     match misuse {
-        Misuse::Table => program.error(
+        Misuse::Table => (
             ErrorKind::InvalidValue,
             "'--of' takes constituencies, municipalities, groups, lists, problems or returns (--municipality, --constituency)",
         ),
-        Misuse::Flags => program.error(
+        Misuse::Flags => (
             ErrorKind::ArgumentConflict,
             "'status' takes one of '--constituencies', '--missing' and '--implausible'",
         ),
-        Misuse::Source => program.error(
+        Misuse::Source => (
             ErrorKind::ArgumentConflict,
             "'seats' takes '--disk', with '--final' or without, or else '--sheet'",
         ),
-        Misuse::Votes => program.error(ErrorKind::InvalidValue, "'--of' takes lists or groups"),
-        Misuse::Layout => program.error(
+        Misuse::Votes => (ErrorKind::InvalidValue, "'--of' takes lists or groups"),
+        Misuse::Layout => (
             ErrorKind::InvalidValue,
             "'--of' takes lists, groups or constituencies",
         ),
     }
+}
+
+/// The refusal of a misused command.
+fn refusal(alloc: Global, misuse: Misuse) -> Result<Error, AllocError>
+    ensures { IfOk result (λ error. kind_of error ≡ kind_by misuse) }
+{
+    let (kind, text) = words_of(misuse);
+    zhcount(alloc)?.error(kind, text)
 }
 
 /// What the arguments ask for. They do not include the program's own name.

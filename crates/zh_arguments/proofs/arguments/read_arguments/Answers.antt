@@ -4,7 +4,6 @@ use Rattle.std.specs.String.{string_bytes}
 use Rattle.std.proofs.lemmas.Result.{err_from_is_err_and}
 use Rattle.clap.specs.Words.{app_of, found_of, rows_of, subcommand_rows_of, Row, Text}
 use Rattle.zh_arguments.specs.Arguments.{Names, misuse_in}
-use Rattle.zh_arguments.specs.declared.arguments.Task.{Task}
 use Rattle.zh_arguments.specs.declared.arguments.Task.TheVariants.{Version}
 use Rattle.zh_arguments.proofs.ArgumentLemmas.{asked, command_read, flag_read, named, parts, refused, refused_misuse}
 use Rattle.zh_arguments.proofs.arguments.read_arguments.Goals as goal

@@ -1,0 +1,14 @@
+use Rattle.std.proofs.lemmas.Result.{IfOk-weaker}
+use Rattle.clap.specs.Words.{AddsArg}
+use Rattle.zh_arguments.specs.Commands.{source_rules}
+use Rattle.zh_arguments.specs.Rules.{IsCommand, command_taking}
+use Rattle.zh_arguments.proofs.RuleLemmas.{takes_more}
+use Rattle.zh_arguments.proofs.seats.with_source.Goals as goal
+
+pub returns : goal.returns
+returns c =
+    let one = takes_more _ _ _ _ _ c.in_ok-with_setup.ensures c.option.ensures c.in_ok-arg.ensures in
+    let two = takes_more _ _ _ _ _ one c.flag.ensures c.in_ok-arg-2.ensures in
+    IfOk-weaker c.arg-3.result (AddsArg c.in_ok-arg-2.field-0 c.option-2.result)
+    (λ command. IsCommand command (command_taking c.args.name.now source_rules))
+    (λ command adds. takes_more _ command _ _ _ two c.option-2.ensures adds) c.arg-3.ensures
