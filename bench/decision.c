@@ -27,8 +27,6 @@ static uint64_t logarithm(uint64_t number) {
     return sum;
 }
 
-/* ---- sweeps ---- */
-
 /* By how much each next seat has to be too dear, and each last one cheap enough; the most and the least of a potential. */
 struct bounds {
     uint64_t given, taken, caps[2], floors[2];
@@ -119,7 +117,7 @@ static void turn(const struct question *q, const struct sweep *w, uint32_t *seat
     }
 }
 
-/* ---- divisors in millionths: boxes from 2^20, 2^16, 2^12, 2^8 and 2^4 on ---- */
+/* Divisors in millionths: boxes from 2^20, 2^16, 2^12, 2^8 and 2^4 on. */
 
 /* The greatest number up to `most` that has no more than this logarithm. */
 static uint64_t number_of(uint64_t log, uint64_t most) {
@@ -145,8 +143,6 @@ static int gives_within(const struct priced *p, struct outcome *o, struct sweep 
     }
     return 0;
 }
-
-/* ---- the decision ---- */
 
 /* A first matrix on the votes with the totals; 0 where there is none: the rows for which no seat can be placed have too few. */
 static int place_first(const struct question *q, struct outcome *o) {
@@ -202,7 +198,7 @@ void decide(const struct question *q, struct outcome *o) {
     turn(q, &w, o->others);
 }
 
-/* ---- divisors for seats that are known, in the middle of those that give them ---- */
+/* Divisors for seats that are known, in the middle of those that give them. */
 
 /* The least rows and the greatest columns that give the seats, columns from `top` on: the rows rise and then the columns fall, as far
  * as their cells require. 0 where one passes a limit. */

@@ -53,8 +53,6 @@ static u128 rounded(uint64_t votes, uint64_t a, uint64_t b, int *half) {
     return quotient;
 }
 
-/* ---- seats that are placed along paths ---- */
-
 /* How many seats each line lacks, the most that each cell may get, and how many it has. */
 struct places {
     uint32_t lacks[2][LINES], most[CELLS], given[CELLS];
@@ -95,8 +93,6 @@ static int place_all(const struct question *q, struct places *p) {
             are_placed &= place_one(q, p, d);
     return are_placed;
 }
-
-/* ---- the ways to round halves ---- */
 
 /* A cell on a half is an edge: from its row to its column where it is rounded down, from its column to its row where it is rounded
  * up. It can be rounded otherwise where its start is reached from its end. */
@@ -150,8 +146,6 @@ static int round_ways(const struct question *q, struct outcome *o) {
         return -1;
     return o->row < 0 ? 0 : spread(q, &p, o);
 }
-
-/* ---- the search ---- */
 
 /* A line of n cells whose votes lie `apart` from one another, the divisors of the lines across, and its total. */
 struct line {

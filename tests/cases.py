@@ -1,6 +1,5 @@
 #!/usr/bin/env python3
-"""The cases (docs/CASES.md): their texts, written out, and runs of them with the program zh_cases, which makes one turn at a time, and with
-zhcount.
+"""The cases (docs/CASES.md): their texts, written out, and runs of them with zh_cases, which makes one turn at a time, and zhcount.
 
 `tests/cases.py [--programs ZH_CASES ZHCOUNT] [FILE.case ..]` runs these files, or all, several at once, with the proved programs or others.
 For each it prints how many cases and turns it has, or what is wrong with it."""
@@ -232,11 +231,6 @@ def asked(turn, read):
     return {"save": "image", "load": "disk"}.get(word, word), *rest.split()
 
 
-def written_lines(said):
-    """The lines of what a program wrote, without their ends."""
-    return [it.removesuffix("\r") for it in said.decode().removesuffix("\n").split("\n")] if said else []
-
-
 class Run:
     """A run of a file of cases, in a folder that has its set-ups."""
 
@@ -317,8 +311,8 @@ class Run:
         arguments, _, name = given.partition("<")
         text = self.read(name.strip()) if name else b""
         ran = subprocess.run([self.zhcount, *arguments.split()], input=text, cwd=self.folder, capture_output=True)
-        said = [f"{before}{it}" for before, out in (("; ", ran.stdout), (" | ", ran.stderr)) for it in written_lines(out)]
-        return "".join([str(ran.returncode), *said])
+        written = [(mark, out.decode().replace("\r\n", "\n")) for mark, out in (("; ", ran.stdout), (" | ", ran.stderr)) if out]
+        return "".join([str(ran.returncode), *(mark + it for mark, text in written for it in text.removesuffix("\n").split("\n"))])
 
     def holding(self):
         """The bytes of the disk, and those of the count of the office that is open, or none."""
@@ -390,13 +384,12 @@ def run(path, programs, folder, environment=None):
 
 def main():
     parser = argparse.ArgumentParser(description=__doc__, formatter_class=argparse.RawDescriptionHelpFormatter)
-    parser.add_argument("--programs", type=Path, nargs=2, default=PROGRAMS_OF_CASES)
+    parser.add_argument("--programs", type=os.path.abspath, nargs=2, default=PROGRAMS_OF_CASES)
     parser.add_argument("names", metavar="FILE.case", nargs="*")
     given = parser.parse_args()
     paths, right = [CASES / it for it in given.names] or sorted(CASES.glob("*.case")), []
-    programs = [it.resolve() for it in given.programs]
     with tempfile.TemporaryDirectory() as room, ProcessPoolExecutor(len(os.sched_getaffinity(0))) as pool:
-        for path, it in zip(paths, pool.map(run, paths, repeat(programs), (Path(room, it.stem) for it in paths))):
+        for path, it in zip(paths, pool.map(run, paths, repeat(given.programs), (Path(room, it.stem) for it in paths))):
             right += [] if it.fault else [it]
             print(it.fault or f"{path.name}: {it.cases} cases, {it.turns} turns", file=sys.stderr if it.fault else sys.stdout, flush=True)
     print(f"all: {sum(it.cases for it in right)} cases, {sum(it.turns for it in right)} turns")

@@ -1,5 +1,5 @@
 """make run, make build and make test: which program is run and called proved, and which crate is refused. They run on a small copy of
-the repository, in a folder with a blank in its name, with a stand-in for the toolchain: nothing is proved, and each test takes seconds."""
+the repository, in a folder with a blank in its name, with a stand-in for the toolchain, and prove nothing."""
 import os
 import shutil
 import subprocess
@@ -8,36 +8,7 @@ import pytest
 
 from places import TOP
 
-# `rt run` makes a program that says what text it was built from; `rt try` compiles one and runs it: try -- list --setup FILE --of groups.
-RT = r"""#!/usr/bin/env bash
-case "$1" in
-    version) echo "kit of the test logic 0" ;;
-    check)
-        mkdir -p out/incremental
-        printf 'fn a: proved\nlogic=proved\n'
-        ;;
-    lib)
-        [ ! -e "$ROOM/refused" ] || exit 1
-        [ -z "${HELD:-}" ] || until [ -e "$ROOM/go" ]; do sleep 0.1; done
-        ;;
-    run)
-        mkdir -p out
-        printf '#!/bin/sh\nsed "s/^/proved %s: /"\n' "$(cat ../zh_low/src/lib.rt)" > "out/${PWD##*/}"
-        chmod +x "out/${PWD##*/}"
-        ;;
-    try)
-        sleep 1
-        [ ! -e "$ROOM/uncompiled" ] || { echo 'error: no such function'; exit 2; }
-        [ ! -e "$ROOM/changed" ] || cp "$ROOM/changed" "$ROOM/$LOW"
-        mkdir "$TMPDIR/native"
-        echo 'x' >> "$ROOM/compiled"
-        printf '#!/bin/sh\nsed "s/^/unproved: /"\n' > "$TMPDIR/native/program"
-        chmod +x "$TMPDIR/native/program"
-        cat "$5" > /dev/null
-        echo 'run=ended status=1 proved=no' >&2
-        ;;
-esac
-"""
+RT = "#!/usr/bin/env bash\n" + (TOP / "tests/stand_in_rt.txt").read_text()
 PROVED, UNPROVED = "proved text of zh_low: 1 open\n", "unproved: 1 open\n"
 RUN = "echo 1 open | make -s run"
 CHANGE = "echo changed text > $LOW"

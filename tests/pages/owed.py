@@ -3,32 +3,18 @@
 A word is in backticks or in a block, an argument with its two dashes. A limit is there as its digits in groups of three, 1,118,720, in
 the part 'Limits' of MANUAL, or anywhere in FORMATS."""
 import re
+from pathlib import Path
 
 from pages.markdown import code_of, sections_of
 
 FORMATS, MANUAL = "docs/FORMATS.md", "docs/MANUAL.md"
 
-# What is owed, its page, and the definitions that have the words, some with what they use: definitions named .._name or .._rules.
-WORDS = {
-    "reply": (FORMATS, "answer"),
-    "refusal": (FORMATS, "name"),
-    "fault": (FORMATS, "fault_text"),
-    "task": (MANUAL, "word_of"),
-    "table": (FORMATS, "name_of_table"),
-    "argument": (FORMATS, "rules_of wants_version"),
-    "key of a set-up": (FORMATS, "key_name"),
-}
+OWED = [it.split(": ") for it in Path(__file__).with_name("owed.txt").read_text().splitlines() if not it.startswith("#")]
+WORDS = {what: (page, names) for what, page, names in OWED if what != "limit"}
 WORD = r'codes " ?((?!refused")[a-z_ -]*[a-z]) ?"'
 EXPLAINED = ("refusal", "fault")  # by a row of MANUAL
 
-# Constants that a reader meets, each with its crate, by the page that has them; and the definitions that have limits of a set-up.
-LIMITS = {
-    MANUAL: """zh_commands LONGEST, zh_office BLOCK, zh_returns LAST_DESK, zh_returns MOST_ROWS, zh_returns MOST_VOTES,
-        zh_tables MOST_LOADED""",
-    FORMATS: """zh_csv MOST_BYTES, zh_csv MOST_HELD, zh_disk DISK_LENGTH, zh_journal AREA_PAGES, zh_journal PAGE_LENGTH,
-        zh_journal LONGEST_PAYLOAD, zh_returns COMMAND_LENGTH, zh_returns LISTS, zh_returns MUNICIPALITIES,
-        zh_returns PAYLOAD_LENGTH, zh_setups LONGEST, zh_sheet_text ROOM, zh_snapshot SETUP_LIMIT, zh_verdicts SHEET_FRONT""",
-}
+# The definitions that have limits of a set-up.
 OF_SETUP = "limits_text setup_of quorum_of constituency_from"
 
 
@@ -59,8 +45,7 @@ def limits(tree):
     part, = ("\n".join(it.lines) for it in sections_of(tree.read(MANUAL)) if it.title == "Limits")
     texts = {FORMATS: tree.read(FORMATS), MANUAL: part}
     owed = [(FORMATS, "a limit of a set-up", it) for it in found_in(tree, OF_SETUP, r"(?<![\w.])(?!1\b)\d+\b")]
-    for page, constant in ((page, it) for page, names in LIMITS.items() for it in names.split(",")):
-        crate, name = constant.split()
+    for page, (crate, name) in ((page, names.split()) for what, page, names in OWED if what == "limit"):
         numbers = re.findall(rf"const {name}: \w+ = ([\d_]+);", "\n".join(text for *_, text in tree.files("src/**/*.rt", [crate])))
         assert numbers, f"{crate} has no constant {name}"
         owed += [(page, f"{name} of {crate}", it) for it in numbers]
