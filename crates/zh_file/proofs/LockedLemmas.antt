@@ -70,6 +70,11 @@ pub ok_map : {T E : Type 0} (P Q : T → Type 0) (result : Result T E) → ((d :
 ok_map P Q (Ok d) f by = f d by
 ok_map P Q (Err fault) f by = tt
 
+-- two facts about what succeeded
+pub ok_both : {T E : Type 0} (P Q R : T → Type 0) (result : Result T E) → ((d : T) → P d → Q d → R d) → IfOk result P → IfOk result Q → IfOk result R
+ok_both P Q R (Ok d) f by also = f d by also
+ok_both P Q R (Err fault) f by also = tt
+
 -- what is left of a file whose bytes are those at its path, if these are known
 pub found_at_path : (IsLeft : List ℕ → List ℕ → Type 0) (at mid : List ℕ → Option (List ℕ)) (path found : List ℕ) → mid ≡ at
     → IfSome (mid path) (λ bytes. found ≡ bytes) → (c : List ℕ) → IsLeft found c → IfSome (at path) (λ bytes. IsLeft bytes c)

@@ -75,6 +75,26 @@ module _ {R : Type 0} where
     others = λ place far off. rest place (λ same. off (same ∙ is)) ∙ others place far;
   }
 
+  -- neither was made
+  pub none_made : (path : List ℕ) (old new : MemoryFolder R) → standing_at new ≡ standing_at old → MakesBoth path (folders_of old).places (folders_of new).places
+  none_made path old new same = record {
+    leads = refl;
+    disk = inl (ap (λ (stands : List ℕ → Standing). stands path) same);
+    companion = inl (ap (λ (stands : List ℕ → Standing). stands (path ++ codes "-wal")) same);
+    others = λ place far off. ap (λ (stands : List ℕ → Standing). stands place) same;
+  }
+
+  -- the disk was made, but not its companion
+  pub one_made : (path : List ℕ) (old new : MemoryFolder R) → IsSameOrMade (standing_at old path) (standing_at new path)
+      → ((place : List ℕ) → place ≢ path → standing_at new place ≡ standing_at old place) → MakesBoth path (folders_of old).places (folders_of new).places
+  one_made path old new made others = both_made path (path ++ codes "-wal") old new new refl made others (inl refl) (λ place far. refl)
+
+  -- the same after a call that made nothing
+  pub made_after : (path : List ℕ) (old mid new : MemoryFolder R) → standing_at mid ≡ standing_at old → MakesBoth path (folders_of mid).places (folders_of new).places
+      → MakesBoth path (folders_of old).places (folders_of new).places
+  made_after path old mid new same makes =
+      subst (λ (stands : List ℕ → Standing). MakesBoth path (record { leads = λ p. p; stands = stands }) (folders_of new).places) same makes
+
   -- the bytes of each file are unchanged if both are made
   pub both_disks : (path : List ℕ) (old new : MemoryFolder R) → MakesBoth path (folders_of old).places (folders_of new).places → disk_in new ≡ disk_in old
   both_disks path old new makes =

@@ -149,6 +149,15 @@ module _ {T D : Type 0} (is_clean : D → Bool) (failures : D → ℕ) (seen : D
       causes (Err fault) refused size by = start_cause IsNoDisk f x z refused (λ clean. size) fault by
 
 -- the same for what is known of a folder, if anything is
+module _ {T : Type 0} (Failed : Type 0) (path : List ℕ) (bytes : T → List ℕ) (a b : Option Folders) where
+  pub known_unmeasured : (fault : FileFault) → IfKnown (Measures path (Err fault)) a b → IfKnown (OpensDisk Failed path bytes (Err fault)) a b
+  known_unmeasured fault measures = map_known (Measures path (Err fault)) (OpensDisk Failed path bytes (Err fault)) a b
+      (λ x y by. unmeasured_opens Failed path bytes bytes fault x y by) measures
+
+  pub known_size : (n : ℕ) → n ≢ disk_length → IfKnown (Measures path (Ok n)) a b → IfKnown (OpensDisk Failed path bytes (Err (faults.Size n))) a b
+  known_size n differs measures = map_known (Measures path (Ok n)) (OpensDisk Failed path bytes (Err (faults.Size n))) a b
+      (λ x y by. size_opens Failed path bytes bytes n x y differs by) measures
+
 module _ {T D : Type 0} (is_clean : D → Bool) (failures : D → ℕ) (seen : D → List ℕ) (path : List ℕ) (bytes : T → List ℕ) (n : ℕ) (a b c : Option Folders)
     (measures : IfKnown (Measures path (Ok n)) a b) where
   pub known_unlocked : (fault : FileFault) → IfKnown (TakesLock path seen (Err fault)) b c → IfKnown (OpensDisk {T = T} (HasFailed is_clean failures) path bytes (Err fault)) a c

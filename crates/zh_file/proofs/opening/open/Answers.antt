@@ -1,16 +1,33 @@
-use Rattle.std.proofs.Common.{◌≡◌, ℕ, List, Err, inl, inr, rules, ⊎_elim, arith}
+use Rattle.std.proofs.Common.{◌≡◌, ◌≢◌, ◌∙◌, ℕ, List, [], Err, false, inl, inr, rules, ⊎_elim, arith}
 use Rattle.std.specs.Prelude.{IfSome}
 use Rattle.zh_file.specs.Files.{IsAsFound}
 use Rattle.zh_file.specs.Locked.{IsLeftOf}
-use Rattle.zh_file.specs.Stored.{IsLeftOpening, stored_history}
-use Rattle.zh_file.proofs.LockedLemmas.{begun_leaves, found_at_path, ok_map}
-use Rattle.zh_disk.specs.Disk.{disk_length}
+use Rattle.zh_file.specs.Stored.{IsLeftOpening, IsWhole, is_over, stored_failures, stored_history}
+use Rattle.zh_file.specs.Opening.{HasFailed}
+use Rattle.zh_file.proofs.LockedLemmas.{begun_leaves, found_at_path, ok_both, ok_map}
+use Rattle.zh_disk.specs.Disk.{disk_length, fresh_trail}
 use Rattle.zh_file.proofs.FolderLemmas.{ok_bytes}
-use Rattle.zh_file.proofs.OpeningLemmas.{file_locked, file_unlocked, known_started, known_unlocked}
+use Rattle.zh_file.proofs.OpeningLemmas.{file_locked, file_unlocked, known_size, known_started, known_unlocked, known_unmeasured}
 use Rattle.zh_file.proofs.PlaceLemmas.{goes_both, meets_after, meets_as}
 use Rattle.zh_file.proofs.CompanionLemmas.{ok_cleared}
 use Rattle.zh_file.proofs.NoteLemmas.{length_meets}
 use Rattle.zh_file.proofs.opening.open.Goals as goal
+
+pub returns-in_err-length-clause-opens : goal.returns-in_err-length-clause-opens
+returns-in_err-length-clause-opens g c =
+    let is : c.from_residual.result ≡ Err c.in_err-length.field-0.0 = search rules in
+    let file = g.F.File.Disk in
+    let at = g.F.Folder.known in
+    rw is (known_unmeasured (HasFailed file.is_clean file.faults) c.args.path.now (λ d. (stored_history d).trail.now.bytes)
+    (at c.args.folder.now) (at c.length_at.new.folder) c.in_err-length.field-0.0 c.in_err-length.ensures.measures)
+
+pub returns-then-length-ne-DISK_LENGTH-clause-opens : goal.returns-then-length-ne-DISK_LENGTH-clause-opens
+returns-then-length-ne-DISK_LENGTH-clause-opens g c =
+    let file = g.F.File.Disk in
+    let at = g.F.Folder.known in
+    let differs : c.in_ok-length.length ≢ disk_length = omega (arith, c.if-length-ne-DISK_LENGTH.true) in
+    known_size (HasFailed file.is_clean file.faults) c.args.path.now (λ d. (stored_history d).trail.now.bytes)
+    (at c.args.folder.now) (at c.length_at.new.folder) c.in_ok-length.length differs c.in_ok-length.ensures.measures
 
 pub returns-in_err-locked-clause-opens : goal.returns-in_err-locked-clause-opens
 returns-in_err-locked-clause-opens g c =
@@ -31,6 +48,21 @@ returns-clause-opens g c =
     long (file_locked c.args.path.now (λ l. l.file) file.seen (at c.length_at.new.folder) (at c.lock.new.folder) c.in_ok-locked.locked
     c.in_ok-locked.ensures.locks) (ok_bytes (λ d. (stored_history d).trail) (file.seen c.in_ok-locked.locked.file) c.hand_over.result
     c.hand_over.ensures.begins) c.hand_over.ensures.fault)
+
+pub returns-clause-begins : goal.returns-clause-begins
+returns-clause-begins g c =
+    let at = g.F.Folder.disk_at in
+    let seen = g.F.File.Disk.seen c.in_ok-locked.locked.file in
+    ok_map (λ d. (stored_history d).trail ≡ fresh_trail seen)
+    (λ d. IfSome (at c.args.folder.now c.args.path.now) (λ bytes. (stored_history d).trail ≡ fresh_trail bytes)) c.hand_over.result
+    (λ d is. found_at_path (λ bytes left. (stored_history d).trail ≡ fresh_trail bytes) (at c.args.folder.now) (at c.length_at.new.folder) c.args.path.now seen
+    c.length_at.ensures.rest.disks c.in_ok-locked.ensures.begins [] is)
+    c.hand_over.ensures.begins
+
+pub returns-clause-whole : goal.returns-clause-whole
+returns-clause-whole g c =
+    ok_both (λ d. stored_failures d ≡ g.F.File.Disk.faults c.in_ok-locked.locked.file) (λ d. is_over d ≡ false) (λ d. IsWhole d) c.hand_over.result
+    (λ d fails over. record { failures = fails ∙ c.in_ok-locked.ensures.fresh.unfailed; begun = over }) c.hand_over.ensures.failures c.hand_over.ensures.whole
 
 pub returns-clause-opening : goal.returns-clause-opening
 returns-clause-opening g c =
