@@ -1,8 +1,8 @@
 -- What a stop can have left of a locked file, over several calls.
-use Rattle.std.proofs.Common.{◌≡◌, ◌+◌, ◌≤◌, ℕ, List, [], Option, Some, None, refl, sym, subst, inl, ⊎_elim, arith}
-use Rattle.std.specs.Prelude.{IfOk, IfSome, Result, Ok, Err}
+use Rattle.std.proofs.Common.{◌≡◌, ◌∙◌, ◌+◌, ◌<◌, ◌≤◌, ℕ, List, [], ◌∷◌, Option, Some, None, length, refl, sym, subst, ap, inl, inr, ⊎_elim, arith, IsTrue}
+use Rattle.std.specs.Prelude.{◌⊎◌, IfErr, IfOk, IfSome, OnOk, Result, Ok, Err}
 use Rattle.std.specs.declared.io.Error.{Error}
-use Rattle.sqlite_disk.specs.Disk.{Cut, Follows, Only, Torn}
+use Rattle.sqlite_disk.specs.Disk.{CountsFault, Cut, Follows, Only, Torn}
 use Rattle.sqlite_disk.specs.declared.Disk.{Ghosts}
 use Rattle.zh_disk.specs.Disk.{disk_length}
 use Rattle.zh_file.specs.Files.{IsAsFound, IsFilling, LeavesNoMore}
@@ -55,6 +55,29 @@ module _ {D : Type 0} (g : Ghosts D) where
       → LeavesOnly g (IsFilling found) new
   kept_leaves found old new no_more before = λ c left. inl (before c (no_more c left))
 
+-- bytes that are none
+pub no_bytes_of : (n : ℕ) (xs : List ℕ) → n ≡ length xs → n ≡ 0 → xs ≡ []
+no_bytes_of n [] is none = refl
+no_bytes_of n (a ∷ more) is none = absurd (omega (arith, is, none))
+
+-- an empty file, while it is filled
+module _ {D : Type 0} (g : Ghosts D) (found : List ℕ) where
+  -- a stop leaves nothing longer than a disk as long as calls only ask
+  pub empty_short : (old new : Locked D) → (IsTrue (g.is_clean new.file) → found ≡ []) → LeavesNoMore (IsLeftOf g old) (IsLeftOf g new) → LeavesOnly g (IsAsFound found) old
+      → LeavesOnly g IsShort new
+  empty_short old new none no_more before = λ c left.
+      let size : length c ≡ 0 = ap length (before c (no_more c left) ∙ none left.0) in
+      omega (arith, size)
+
+  pub filling_leaves : (l : Locked D) → (IsTrue (g.is_clean l.file) → found ≡ []) → LeavesOnly g IsShort l → LeavesOnly g (IsFilling found) l
+  filling_leaves l none short = λ c left. inr (none left.0, short c left)
+
+-- after a call that failed, the length was set back to 0, or that failed too
+pub set_back : {T : Type 0} (result : Result T Error) (was now : List ℕ) (before after : ℕ) → OnOk result (length now ≡ 0) → CountsFault result before after
+    → was ≡ [] → 0 < before → (now ≡ was) ⊎ (1 < after)
+set_back (Ok done) was now before after cut counted none failed = inl (no_bytes_of (length now) now refl cut ∙ sym none)
+set_back (Err error) was now before after cut counted none failed = inr (omega (arith, counted.0, failed))
+
 -- the bytes that were found are those that are known, if any are
 known_found : (IsLeft : List ℕ → List ℕ → Type 0) (known : Option (List ℕ)) (found c : List ℕ) → IfSome known (λ bytes. found ≡ bytes) → IsLeft found c
     → IfSome known (λ bytes. IsLeft bytes c)
@@ -69,6 +92,10 @@ module _ {D : Type 0} (g : Ghosts D) where
 pub ok_map : {T E : Type 0} (P Q : T → Type 0) (result : Result T E) → ((d : T) → P d → Q d) → IfOk result P → IfOk result Q
 ok_map P Q (Ok d) f by = f d by
 ok_map P Q (Err fault) f by = tt
+
+pub err_map : {T E : Type 0} (P Q : E → Type 0) (result : Result T E) → ((error : E) → P error → Q error) → IfErr result P → IfErr result Q
+err_map P Q (Ok it) f by = tt
+err_map P Q (Err error) f by = f error by
 
 -- two facts about what succeeded
 pub ok_both : {T E : Type 0} (P Q R : T → Type 0) (result : Result T E) → ((d : T) → P d → Q d → R d) → IfOk result P → IfOk result Q → IfOk result R
