@@ -57,6 +57,18 @@ impl<R> MemoryFolder<R> {
         done
     }
 
+    /// What is at this path.
+    fn found_at(&self, path: &str) -> io::Result<Found>
+        ensures said { IfOk result (IsKind (standing_at self.now path.now)) }
+        ensures missing { IfErr result (λ error. (error_kind error ≡ ErrorKind.NotFound) × (standing_at self.now path.now ≡ nothing)) }
+    {
+        match stood_at(&self.placed, path) {
+            Some(Stood::File(bytes)) => Ok(Found::File(bytes.len() as u64)),
+            Some(Stood::Other) => Ok(Found::Other),
+            Some(Stood::Nothing) | None => Err(ErrorKind::NotFound.into()),
+        }
+    }
+
     fn kind_at(&mut self, path: &str) -> io::Result<Found>
         ensures rest { self.new ≡ record self.old { calls = self.new.calls } }
         ensures spends { Spends (standing_at self.old path.now ≡ nothing) result self.old self.new }
@@ -64,11 +76,7 @@ impl<R> MemoryFolder<R> {
         ensures why { IfErr result (λ error. IsCauseAt (standing_at self.old path.now) (cause_of (error_kind error))) }
     {
         self.pass()?;
-        match stood_at(&self.placed, path) {
-            Some(Stood::File(bytes)) => Ok(Found::File(bytes.len() as u64)),
-            Some(Stood::Other) => Ok(Found::Other),
-            Some(Stood::Nothing) | None => Err(ErrorKind::NotFound.into()),
-        }
+        self.found_at(path)
     }
 
     fn companion_at(&mut self, path: &str) -> io::Result<String>

@@ -1,4 +1,4 @@
-use Rattle.std.proofs.Common.{◌≡◌, ◌<◌, ◌∙◌, List, [], ℕ, IsTrue, arith, inl, subst, sym}
+use Rattle.std.proofs.Common.{◌≡◌, ◌<◌, ◌∙◌, List, [], IsTrue, arith, inl, subst, sym}
 use Rattle.std.specs.IoError.{error_kind}
 use Rattle.std.specs.declared.io.ErrorKind.{ErrorKind}
 use Rattle.sqlite_disk.specs.Disk.{Cut}
