@@ -69,6 +69,16 @@ pub(crate) enum Note<D: File> {
     Unlocked(Past<u8>, Locked<D>),
 }
 
+/// Notes a call at this path that failed in this way.
+fn note_failure<D: File + Drop>(notes: &mut Past<Note<D>>, path: &str, setback: Setback)
+    ensures failed { failed_among D.Disk (items notes.new)
+        ≡ record { path = path.now; setback = setback } ∷ failed_among D.Disk (items notes.old) }
+    ensures unlocked { unlocked_among (items notes.new) ≡ unlocked_among (items notes.old) }
+{
+    let failed = Note::Failed(Failure::at(path, setback));
+    notes.push(Snapshot::of(&failed));
+}
+
 /// Notes a call at this path if it failed.
 pub(crate) fn note_call<D: File + Drop, T>(
     notes: &mut Past<Note<D>>,
@@ -80,8 +90,7 @@ pub(crate) fn note_call<D: File + Drop, T>(
     ensures unlocked { unlocked_among (items notes.new) ≡ unlocked_among (items notes.old) }
 {
     if let Err(error) = done {
-        let failed = Note::Failed(Failure::at(path, Setback::Asked(error.kind())));
-        notes.push(Snapshot::of(&failed));
+        note_failure(notes, path, Setback::Asked(error.kind()));
     }
 }
 
@@ -108,8 +117,7 @@ pub(crate) fn note_lock<D: File + Drop, T>(
     ensures unlocked { unlocked_among (items notes.new) ≡ unlocked_among (items notes.old) }
 {
     if let Err(error) = done {
-        let failed = Note::Failed(Failure::at(path, setback_of(error)));
-        notes.push(Snapshot::of(&failed));
+        note_failure(notes, path, setback_of(error));
     }
 }
 

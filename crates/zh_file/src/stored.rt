@@ -113,9 +113,10 @@ impl<D: File> Disk for Stored<D> {
         }
         self.before.push(Snapshot::of(&self.held));
         let done = self.held.file.write_at(at as usize, from);
+        let done = reported(done);
         self.held.written.push(Snapshot::of(&(at, from.len())));
         self.is_over = done.is_err();
-        reported(done)
+        done
     }
 
     fn sync(&mut self) -> Result<(), DiskFault>
@@ -128,12 +129,13 @@ impl<D: File> Disk for Stored<D> {
         }
         let before = Snapshot::of(&self.held);
         let done = self.held.file.sync();
+        let done = reported(done);
         if done.is_ok() {
             self.before.push(before);
             self.held.written = Past::new();
         } else {
             self.is_over = true;
         }
-        reported(done)
+        done
     }
 }

@@ -22,6 +22,7 @@ use crate::notes::{note_call, note_lock, note_unlocked};
 use crate::stored::Locked;
 use sqlite_disk::{Disk as File, Files};
 use sqlite_std_file::OpenError;
+use std::alloc::AllocError;
 use std::io::{self, Cursor, ErrorKind, Read};
 
 impl<R> MemoryFolder<R> {
@@ -113,6 +114,31 @@ impl<R> MemoryFolder<R> {
         Ok(self.place(path)?)
     }
 
+    /// Makes an empty file at the path of a disk and at that of its companion, each if there is nothing.
+    fn place_both(&mut self, path: &str, companion: &str) -> Result<(), AllocError>
+        requires { companion.now ≡ path.now ++ codes "-wal" }
+        ensures rest { self.new ≡ record self.old { placed = self.new.placed } }
+        ensures made { MakesBoth path.now (folders_of self.old).places (folders_of self.new).places }
+    {
+        self.place(path)?;
+        self.place(companion)
+    }
+
+    /// The disk at this path and its companion at the other.
+    fn files_at(&self, path: &str, companion: &str) -> io::Result<Files<MemoryFile>>
+        ensures locked { IfOk result (λ files. standing_at self.now path.now ≡ filed (⟦<MemoryFile as File>⟧.seen files.db)) }
+        ensures usable { IfOk result (λ files. IsTrue (⟦<MemoryFile as File>⟧.is_usable files.db)) }
+        ensures synced { IfOk result (λ files.
+            Only (⟦<MemoryFile as File>⟧.seen files.db) (⟦<MemoryFile as File>⟧.may_leave files.db)) }
+        ensures unfailed { IfOk result (λ files. ⟦<MemoryFile as File>⟧.faults files.db ≡ 0) }
+        ensures calls { IfOk result (λ files. calls_left (file_of files.db) ≡ self.now.file_calls) }
+    {
+        Ok(Files {
+            log: self.file_at(companion)?,
+            db: self.file_at(path)?,
+        })
+    }
+
     /// The disk at this path and its companion. Makes each of them if there is nothing at its path.
     fn both_at(&mut self, path: &str) -> io::Result<Files<MemoryFile>>
         ensures rest { self.new ≡ record self.old { placed = self.new.placed } }
@@ -125,12 +151,8 @@ impl<R> MemoryFolder<R> {
         ensures calls { IfOk result (λ files. calls_left (file_of files.db) ≡ self.old.file_calls) }
     {
         let companion = self.beside(path)?;
-        self.place(path)?;
-        self.place(&companion)?;
-        Ok(Files {
-            log: self.file_at(&companion)?,
-            db: self.file_at(path)?,
-        })
+        self.place_both(path, &companion)?;
+        self.files_at(path, &companion)
     }
 
     fn lock_at(&mut self, path: &str) -> Result<Files<MemoryFile>, OpenError>

@@ -14,11 +14,11 @@ returns-clause-call g c =
       kept = call.clean;
       did = λ clean.
           let size = c.args.self.now.size (call.clean clean) in
-          writes _ _ _ _ _ _ c.args.at c.args.from.now c.write_at-done.result c.reported.result c.reported.ensures
+          writes _ _ _ _ _ _ c.args.at c.args.from.now c.write_at-done.result c.reported-done.result c.reported-done.ensures
           (c.push-2.ensures ∙ ap (λ r. r ∷ items c.args.self.now.held.written) c.of-2.ensures)
           (ap (map (moment g.D.Disk.seen)) c.push.ensures ∙ ap (λ h. moment g.D.Disk.seen h ∷ map (moment g.D.Disk.seen) (items c.args.self.now.before)) c.of.ensures)
           (omega (arith, c.requires, size)) call.others call.written;
-      counts = file_counts _ _ _ c.write_at-done.result c.reported.result c.reported.ensures call.faults;
+      counts = file_counts _ _ _ c.write_at-done.result c.reported-done.result c.reported-done.ensures call.faults;
     }
 
 pub returns-then-self-clause-call : goal.returns-then-self-clause-call
