@@ -98,15 +98,20 @@ fn run_on(
         files: FolderFiles::new(folder),
     };
     let Ended { result, used } = program(alloc, arguments, OneDisk, &mut world);
-    if let Some(Used::Disk(filmed)) = used {
-        let Filmed {
-            disk,
-            film: _film,
-            text: _text,
-        } = filmed;
-        if let Some(disk) = disk.into_file().into_disk() {
-            fixture.take_over(disk);
+    let disk = match used {
+        Some(Used::Disk(filmed)) => {
+            let Filmed {
+                disk,
+                film: _film,
+                text: _text,
+            } = filmed;
+            disk.into_file().into_disk()
         }
+        Some(Used::Rehearsal(_film)) => None,
+        None => None,
+    };
+    if let Some(disk) = disk {
+        fixture.take_over(disk);
     }
     push_run(answer, result, &world.output.bytes, &world.faults)
 }
