@@ -69,6 +69,7 @@ fn encode(count: &Count<'_>, into: &mut [u8]) {
 }
 
 impl<'s> Fixture<'s> {
+    /// Formats the disk, with no office open on it.
     pub(crate) fn format(&mut self) -> Result<&'static str, CaseFault> {
         self.office = None;
         self.begin()?;
@@ -81,6 +82,7 @@ impl<'s> Fixture<'s> {
         }
     }
 
+    /// Opens the office on the disk, as after a restart.
     pub(crate) fn open(&mut self) -> Result<&'static str, CaseFault> {
         self.begin()?;
         let opened = Office::open(self.alloc, self.setup, present(&mut self.device)?);

@@ -11,6 +11,7 @@ pub struct SlowInput<'a> {
 }
 
 impl SlowInput<'_> {
+    /// An input that gives this text, and fails after this many bytes.
     pub fn new(text: &[u8], left: u64) -> SlowInput<'_> {
         SlowInput { text, left }
     }
@@ -37,6 +38,7 @@ impl Read for SlowInput<'_> {
 /// Takes bytes from each write, and fails after `left` writes.
 #[derive(Drop)]
 pub struct SlowOutput {
+    /// What was written.
     pub bytes: Vec<u8>,
     left: u64,
     /// The most bytes that one write takes.
@@ -44,6 +46,7 @@ pub struct SlowOutput {
 }
 
 impl SlowOutput {
+    /// An output that fails after `left` writes, each of which takes at most `takes` bytes.
     pub fn new(alloc: Global, left: u64, takes: usize) -> SlowOutput {
         SlowOutput {
             bytes: Vec::new(alloc),
