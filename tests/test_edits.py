@@ -86,16 +86,10 @@ def test_libraries(tree):
 
 
 def test_gravest(tree):
-    """They are tried in crates that did not change, without a first check. One in must-fail, which changes no sum, is left to rt ci."""
-    gravest, text = tree.wrong / "gravest", WRONG["zh_low/step_of_three"]
+    """They are tried in crates that did not change, without a first check."""
+    gravest = tree.wrong / "gravest"
     gravest.write_text("A list.\n\nzh_low/next.adds_two  it is not the next\nzh_low/step_of_three  it steps too far\n")
     tree.says(0, "none; of the others the 2 gravest", "zh_low: 2 of 2 refused at a goal of their own, in 2 checks", words=[])
-    alone = tree.top / "crates/zh_low/must-fail/step_of_three.edit"
-    alone.parent.mkdir()
-    alone.write_text(text)
-    tree.says(1, "have an edit of one name: step_of_three", words=["--differ"])
-    tree.change(tree.wrong / "zh_low.edits", f"\nname: step_of_three\n{text}", "")
-    tree.says(0, "none; of the others the 1 gravest", words=["--differ"])
     gravest.write_text("zh_low/next.adds_three  it is not the next\n")
     tree.says(1, "names zh_low/next.adds_three, which is no wrong body", words=["--differ"])
 

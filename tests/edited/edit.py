@@ -25,8 +25,8 @@ class NoLongerApplies(Exception):
 
 class Edit:
     """A wrong body: a text with a line `file: src/x.rt` and pairs of lines `old: TEXT` and `new: TEXT`, as the toolchain reads it, and
-    perhaps a line `# refused at: FUNCTION`, which names a caller in the same crate whose contract refuses it. It is a file of
-    crates/CRATE/must-fail, or an entry of tests/wrong_bodies/CRATE.edits."""
+    perhaps a line `# refused at: FUNCTION`, which names a caller in the same crate whose contract refuses it. It is an entry of
+    tests/wrong_bodies/CRATE.edits."""
 
     def __init__(self, name, crate, text):
         self.name, self.crate, self.text = name, crate, text

@@ -41,22 +41,19 @@ class Tree:
         return [it for it in self.named if it in found]
 
     def edits(self, crate):
-        """The wrong bodies of a crate, in both places."""
-        folder, others = self.folder(crate), self.top / f"tests/wrong_bodies/{crate}.edits"
-        alone = {it.stem: it.read_text(encoding="utf-8") for it in sorted((folder / "must-fail").glob("*.edit"))}
-        found = entries_of(others) if others.is_file() else {}
-        for name in alone.keys() & found.keys():
-            raise ValueError(f"{others} and {folder}/must-fail have an edit of one name: {name}")
-        return [Edit(name, folder, text) for name, text in {**alone, **found}.items()]
+        """The wrong bodies of a crate."""
+        path = self.top / f"tests/wrong_bodies/{crate}.edits"
+        found = entries_of(path) if path.is_file() else {}
+        return [Edit(name, self.folder(crate), text) for name, text in found.items()]
 
     def gravest(self, crate):
-        """Its wrong bodies that tests/wrong_bodies/gravest names, each with a reason, but for those that rt ci tries."""
+        """Its wrong bodies that tests/wrong_bodies/gravest names, each with a reason."""
         path = self.top / "tests/wrong_bodies/gravest"
         lines = re.findall(r"(?m)^(\w+)/(\S+) +\S.*", path.read_text(encoding="utf-8")) if path.is_file() else []
         named, edits = {name for of, name in lines if of == crate}, {it.name: it for it in self.edits(crate)}
         if named - set(edits):
             raise ValueError(f"{path} names {crate}/{min(named - set(edits))}, which is no wrong body")
-        return [edits[it] for it in sorted(named) if not (self.folder(crate) / f"must-fail/{it}.edit").exists()]
+        return [edits[it] for it in sorted(named)]
 
     @cached_property
     def with_edits(self):
