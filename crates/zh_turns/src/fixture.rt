@@ -50,6 +50,7 @@ impl<'s> Fixture<'s> {
         let Some(setup) = setups.first() else {
             return Err(CaseFault::Text("a file begins with a set-up"));
         };
+        let output = Vec::with_capacity(alloc, ROOM)?;
         Ok(Fixture {
             rt,
             alloc,
@@ -58,7 +59,7 @@ impl<'s> Fixture<'s> {
             device: None,
             marked: Vec::new(alloc),
             office: None,
-            output: Vec::with_capacity(alloc, ROOM)?,
+            output,
             is_refusing: false,
             mark: None,
         })
@@ -77,9 +78,23 @@ impl<'s> Fixture<'s> {
         self.mark = None;
     }
 
+    pub(crate) fn close(&mut self) {
+        self.office = None;
+    }
+
+    fn put(&mut self, device: Device) {
+        self.device = Some(device);
+    }
+
+    /// Takes a disk, with no office open on it.
+    fn take(&mut self, device: Device) {
+        self.close();
+        self.put(device);
+    }
+
     /// Takes the set-up with this number, counted from 0, and closes the office.
     pub(crate) fn take_setup(&mut self, word: &str) -> Result<(), CaseFault> {
-        self.office = None;
+        self.close();
         match self.setups.get(number(word)? as usize) {
             Some(setup) => {
                 self.setup = setup;
@@ -89,10 +104,9 @@ impl<'s> Fixture<'s> {
         }
     }
 
-    /// Takes a disk of these bytes, with no office open on it.
+    /// Takes a disk of these bytes.
     fn take_image(&mut self, image: &[u8]) -> Result<(), CaseFault> {
-        self.office = None;
-        self.device = Some(disk_of(self.alloc, image)?);
+        self.take(disk_of(self.alloc, image)?);
         Ok(())
     }
 
@@ -110,8 +124,7 @@ impl<'s> Fixture<'s> {
 
     /// Takes the disk that a run of the program handed over.
     pub fn take_over(&mut self, disk: MemoryDisk) {
-        self.office = None;
-        self.device = Some(device(disk, NEVER, NEVER));
+        self.take(device(disk, NEVER, NEVER));
     }
 
     /// The bytes of the disk.
@@ -134,8 +147,8 @@ impl<'s> Fixture<'s> {
 
     /// Takes a disk like the one that was kept.
     pub(crate) fn back(&mut self) -> Result<(), CaseFault> {
-        self.office = None;
-        self.device = Some(disk_of(self.alloc, &self.marked)?);
+        let device = disk_of(self.alloc, &self.marked)?;
+        self.take(device);
         Ok(())
     }
 
@@ -155,7 +168,8 @@ impl<'s> Fixture<'s> {
             "mend" => (NEVER, NEVER),
             _ => return Err(CaseFault::Text("there is no such turn")),
         };
-        self.device = Some(device(self.take_memory()?, for_good, once));
+        let memory = self.take_memory()?;
+        self.put(device(memory, for_good, once));
         Ok(())
     }
 

@@ -61,6 +61,18 @@ fn push_shares(shares: &Shares, answer: &mut String) -> Result<(), AllocError> {
     write!(answer, "; divisor {} {}", shares.num(), shares.den())
 }
 
+/// Appends the seats of shares, or why there are none.
+fn push_apportioned(
+    apportioned: Result<Shares, ShareFault>,
+    answer: &mut String,
+) -> Result<(), AllocError> {
+    match apportioned {
+        Ok(shares) => push_shares(&shares, answer),
+        Err(ShareFault::Tied) => answer.push_str("tied"),
+        Err(ShareFault::Memory) => answer.push_str("memory"),
+    }
+}
+
 /// Appends the seats of a house and their divisor, as its numerator and its denominator; or `tied`. The numbers are the house's
 /// seats and the weights.
 fn push_house(alloc: Global, numbers: &[u64], answer: &mut String) -> Result<(), CaseFault> {
@@ -70,11 +82,8 @@ fn push_house(alloc: Global, numbers: &[u64], answer: &mut String) -> Result<(),
     if !are_weights(weights) || !(1..=400).contains(house) {
         return Err(CaseFault::Text("these are no weights"));
     }
-    match apportion(alloc, &Weights::new(alloc, weights)?, *house as u32) {
-        Ok(shares) => Ok(push_shares(&shares, answer)?),
-        Err(ShareFault::Tied) => Ok(answer.push_str("tied")?),
-        Err(ShareFault::Memory) => Ok(answer.push_str("memory")?),
-    }
+    let weights = Weights::new(alloc, weights)?;
+    Ok(push_apportioned(apportion(alloc, &weights, *house as u32), answer)?)
 }
 
 /// Answers with the seats of the house in these numbers.

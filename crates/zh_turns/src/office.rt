@@ -3,12 +3,13 @@
 use crate::disk::{Device, disk_of, image_of};
 use crate::fault::CaseFault;
 use crate::fixture::{Fixture, present};
-use crate::reason::push_reason;
+use crate::reason::push_made;
 use crate::streams::{SlowInput, SlowOutput};
 use crate::texts::{bytes_of, next_number, number, parted, push_lines};
-use std::alloc::AllocError;
+use std::alloc::{AllocError, Global};
 use std::fs;
 use zh_commands::{Reply, write_reply};
+use zh_districts::Setup;
 use zh_film::Film;
 use zh_office::{FormatFault, NotedReader, Office, OpenFault, ServeFault};
 use zh_returns::{Count, Format, PAYLOAD_LENGTH, decode_command};
@@ -26,6 +27,20 @@ fn word_of(opened: &Result<Office<'_>, OpenFault>) -> &'static str {
         Err(OpenFault::Blank) => "blank",
         Err(OpenFault::Damaged) => "damaged",
         Err(OpenFault::SetupDiffers) => "differs",
+    }
+}
+
+/// The answer of an opening of this disk, on which no office stays open.
+fn word_of_opening(alloc: Global, setup: &Setup, disk: &mut Device) -> &'static str {
+    word_of(&Office::open(alloc, setup, disk))
+}
+
+/// The answer of a formatting.
+fn word_of_formatting(formatted: Result<(), FormatFault>) -> &'static str {
+    match formatted {
+        Ok(()) => "ok",
+        Err(FormatFault::Memory) => "memory",
+        Err(FormatFault::Device) => "device",
     }
 }
 
@@ -47,6 +62,16 @@ fn push_end(answer: &mut String, served: Result<u64, ServeFault>) -> Result<(), 
         Ok(lines) => write!(answer, "{lines}"),
         Err(fault) => write!(answer, "{fault}"),
     }
+}
+
+/// Appends how serving ended, and the lines that were written.
+fn push_served(
+    answer: &mut String,
+    served: Result<u64, ServeFault>,
+    written: &[u8],
+) -> Result<(), CaseFault> {
+    push_end(answer, served)?;
+    push_lines(answer, "; ", written)
 }
 
 /// Appends a reply without its desk, and how many bytes were not read.
@@ -71,15 +96,15 @@ fn encode(count: &Count<'_>, into: &mut [u8]) {
 impl<'s> Fixture<'s> {
     /// Formats the disk, with no office open on it.
     pub(crate) fn format(&mut self) -> Result<&'static str, CaseFault> {
-        self.office = None;
+        self.close();
         self.begin()?;
         let formatted = Office::format(self.alloc, self.setup, present(&mut self.device)?);
         self.end();
-        match formatted {
-            Ok(()) => Ok("ok"),
-            Err(FormatFault::Memory) => Ok("memory"),
-            Err(FormatFault::Device) => Ok("device"),
-        }
+        Ok(word_of_formatting(formatted))
+    }
+
+    fn keep(&mut self, opened: Result<Office<'s>, OpenFault>) {
+        self.office = opened.ok();
     }
 
     /// Opens the office on the disk, as after a restart.
@@ -88,7 +113,7 @@ impl<'s> Fixture<'s> {
         let opened = Office::open(self.alloc, self.setup, present(&mut self.device)?);
         self.end();
         let word = word_of(&opened);
-        self.office = opened.ok();
+        self.keep(opened);
         Ok(word)
     }
 
@@ -96,12 +121,9 @@ impl<'s> Fixture<'s> {
     pub(crate) fn damage(&self, name: &str) -> Result<&'static str, CaseFault> {
         let image = fs::read(self.rt, name)?;
         let mut disk = disk_of(self.alloc, &image)?;
-        let word = word_of(&Office::open(self.alloc, self.setup, &mut disk));
-        if image_of(self.alloc, &mut disk)? == image {
-            Ok(word)
-        } else {
-            Ok("changed")
-        }
+        let word = word_of_opening(self.alloc, self.setup, &mut disk);
+        let is_same = image_of(self.alloc, &mut disk)? == image;
+        Ok(if is_same { word } else { "changed" })
     }
 
     /// Writes the bytes of the open office's count into a file. Without an office there are none.
@@ -170,8 +192,8 @@ impl<'s> Fixture<'s> {
         let left_in = next_number(&mut limits)?;
         let left_out = next_number(&mut limits)?;
         let takes = next_number(&mut limits)? as usize;
-        let output = SlowOutput::new(self.alloc, left_out, takes);
         let text = fs::read(self.rt, name)?;
+        let output = SlowOutput::new(self.alloc, left_out, takes);
         self.serve_on(SlowInput::new(&text, left_in), output, reads, answer)
     }
 
@@ -187,8 +209,7 @@ impl<'s> Fixture<'s> {
         };
         let disk = present(&mut self.device)?;
         let served = office.serve(&mut input, &mut output, disk, &mut Film::new(), reads);
-        push_end(answer, served)?;
-        push_lines(answer, "; ", &output.bytes)
+        push_served(answer, served, &output.bytes)
     }
 
     /// Appends the office's answer to loading the text in a file, which is read byte by byte and fails after so many bytes. The
@@ -233,10 +254,7 @@ impl<'s> Fixture<'s> {
             return push_closed(answer);
         };
         let made = make_or_reason(self.alloc, office.totals());
-        self.mark = None;
-        match made {
-            Ok(_) => Ok(answer.push_str("a sheet")?),
-            Err(none) => Ok(push_reason(answer, none, self.setup.constituencies())?),
-        }
+        self.end();
+        Ok(push_made(answer, made, self.setup.constituencies())?)
     }
 }

@@ -3,7 +3,7 @@ ghost use Rattle.std.specs.Prelude.{◌≤◌};
 
 use crate::answer::push_impossible;
 use std::alloc::AllocError;
-use zh_sheet::{ExhaustedReason, ListSeats, NoSheet, SheetFault};
+use zh_sheet::{ExhaustedReason, ListSeats, NoSheet, Sheet, SheetFault};
 
 /// Appends the lists of a constituency that have seats, each as its constituency, its group and its seats.
 fn push_lists(answer: &mut String, lists: &ListSeats, constituency: u32) -> Result<(), AllocError>
@@ -47,15 +47,25 @@ fn push_exhausted(
 }
 
 /// Appends why a count has no sheet: why the search for the seats of its lists is exhausted, or the earlier fault.
-pub(crate) fn push_reason(
-    answer: &mut String,
-    none: NoSheet,
-    constituencies: u32,
-) -> Result<(), AllocError>
+fn push_reason(answer: &mut String, none: NoSheet, constituencies: u32) -> Result<(), AllocError>
     requires { constituencies ≤ 32 }
 {
     match none {
         NoSheet::Exhausted(reason) => push_exhausted(answer, &reason, constituencies),
         none => write!(answer, "{}", SheetFault::from(none)),
+    }
+}
+
+/// Appends why a count has no sheet, or `a sheet` if it has one.
+pub(crate) fn push_made(
+    answer: &mut String,
+    made: Result<Sheet, NoSheet>,
+    constituencies: u32,
+) -> Result<(), AllocError>
+    requires { constituencies ≤ 32 }
+{
+    match made {
+        Ok(_) => answer.push_str("a sheet"),
+        Err(none) => push_reason(answer, none, constituencies),
     }
 }

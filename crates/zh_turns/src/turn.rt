@@ -33,6 +33,18 @@ fn answer_with(
         "judge" => fixture.judge(rest, answer),
         "accepted" => fixture.accepted(answer),
         "calls" => fixture.calls(answer),
+        _ => answer_of_its_own(fixture, word, rest, answer),
+    }
+}
+
+/// Makes a turn that asks for seats, or one whose answer is a word.
+fn answer_of_its_own(
+    fixture: &mut Fixture<'_>,
+    word: &str,
+    rest: &str,
+    answer: &mut String,
+) -> Result<(), CaseFault> {
+    match word {
         "question" => ask(fixture, Whom::Searches, rest, answer),
         "decision" => ask(fixture, Whom::Decision, rest, answer),
         "lot" => ask(fixture, Whom::Lot, rest, answer),
