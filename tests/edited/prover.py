@@ -63,13 +63,14 @@ class Prover:
         except subprocess.TimeoutExpired:
             return f"rattle: no verdict after {SECONDS} seconds", 3
 
-    def check_over(self, seed, crate, texts, only):
-        """The report on the crate with these texts, over a copy of the seed; or without one on these functions alone, if it finds them."""
+    def check_over(self, seed, kept, crate, texts, only):
+        """The report on the crate with these texts, over a copy of the seed; or without one, over the work in the folder `kept`, on these
+        functions alone, if it finds them."""
         if not seed:
-            report = self.check(crate, texts, only=only)
-            return report if report.status != 2 else self.check(crate, texts)
-        with tempfile.TemporaryDirectory(dir=self.folder) as kept:
-            return self.check(crate, texts, shutil.copytree(seed, kept, dirs_exist_ok=True))
+            report = self.check(crate, texts, kept, only=only)
+            return report if report.status != 2 else self.check(crate, texts, kept)
+        with tempfile.TemporaryDirectory(dir=self.folder) as own:
+            return self.check(crate, texts, shutil.copytree(seed, own, dirs_exist_ok=True))
 
 
 def build_libraries(tree, crates, jobs, say):

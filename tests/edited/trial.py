@@ -76,21 +76,22 @@ def judged(report, crate, edit, is_alone):
     return ELSEWHERE, advice + refused
 
 
-def try_batch(prover, seed, crate, batch):
+def try_batch(prover, seed, kept, crate, batch):
     """What each edit of the batch came to, as above."""
     texts = {}
     for edit in batch:
         texts = edit.applied(texts)
-    report = prover.check_over(seed, crate, texts, [it for edit in batch for it in edit.functions])
+    report = prover.check_over(seed, kept, crate, texts, [it for edit in batch for it in edit.functions])
     return [judged(report, crate, edit, len(batch) == 1) for edit in batch]
 
 
-def try_batches(prover, seed, crate, batches, say):
-    """Tries the edits in these batches, side by side, and then those that did not come clear in smaller ones. Keeps which are refused."""
+def try_batches(prover, seed, kept, crate, batches, say):
+    """Tries the edits in these batches, side by side over copies of a seed, or without one in turn over the work in the folder `kept`, and
+    then those that did not come clear in smaller ones. Keeps which are refused."""
     began = time.monotonic()
-    with ThreadPoolExecutor(prover.lanes) as pool:
+    with ThreadPoolExecutor(prover.lanes if seed else 1) as pool:
         while batches:
-            running = {pool.submit(try_batch, prover, seed, crate.name, it): it for it in batches}
+            running = {pool.submit(try_batch, prover, seed, kept, crate.name, it): it for it in batches}
             crate.checks, batches = crate.checks + len(batches), []
             for done in as_completed(running):
                 found = list(zip(running[done], done.result()))
@@ -105,8 +106,7 @@ def try_batches(prover, seed, crate, batches, say):
 
 def try_crate(prover, name, edits, jobs, anew, say):
     """Tries these wrong bodies of a crate, all anew or those that no run refused, over a first check of it, with at most `jobs` jobs.
-    Where they are few checks, and the library shows that the crate is proved, none is made: it takes as long as each of them does from
-    nothing."""
+    Where they are few checks, and the library shows that the crate is proved, none is made: it takes longer than they do from nothing."""
     began, crate = time.monotonic(), Crate(prover.tree, name, edits)
     for edit in edits:
         try:
@@ -126,6 +126,6 @@ def try_crate(prover, name, edits, jobs, anew, say):
             if report.status != 0:
                 crate.outcomes.update({it.name: (UNKNOWN, f"the crate itself is not proved: {report.first_error}") for it in todo})
                 batches = []
-        try_batches(prover, seed, crate, batches, say)
+        try_batches(prover, seed, room, crate, batches, say)
     crate.seconds, crate.refused = round(time.monotonic() - began), sum(kind == REFUSED for kind, _ in crate.outcomes.values())
     return crate
