@@ -1,5 +1,5 @@
 -- The middle of the divisors that give some seats.
-use Rattle.std.proofs.Common.{◌≡◌, ℕ, ◌/◌, ◌^◌, Bool, true, false, ◌↔◌, IsTrue, List, length, inl, inr, sym, ap, ◌∙◌}
+use Rattle.std.proofs.Common.{◌≡◌, ℕ, ◌/◌, ◌^◌, ◌≤◌, Bool, true, false, ◌↔◌, IsTrue, List, length, inl, inr, sym, ap, ◌∙◌, arith}
 use Rattle.std.proofs.lemmas.Bool.{false≢true}
 use Rattle.std.specs.Bool.{OnFalse, OnTrue}
 use Rattle.zh_matrices.specs.Divisors.{AreWithin, Divisors, millionths}
@@ -11,6 +11,14 @@ use Rattle.zh_matrices.specs.SeatMatrix.{IsStrict}
 use Rattle.zh_lower.proofs.ExtremeLemmas.{IsGreatest-of}
 use Rattle.zh_lower.proofs.RoundLemmas.{only-columns, only-rows}
 use Rattle.zh_matrices.proofs.CallerLemmas.{only_seats, weakened}
+
+-- divisors within a limit are within a greater one
+pub AreWithin-more : (n top most : ℕ) (xs : List ℕ) → top ≤ most → AreWithin n top xs → AreWithin n most xs
+AreWithin-more n top most xs less within = record {
+  one_each = within.one_each;
+  from_1 = within.from_1;
+  at_most = λ k d lt. omega (arith, within.at_most k d lt);
+}
 
 pub follow-true : (result : Bool) (claim other : Type 0) → (claim → other) → OnTrue result claim → OnTrue result other
 follow-true true claim other step given = step given
@@ -116,3 +124,9 @@ second-strict q seats x (inr (none, within)) = within.strict
 pub none-second : (q : Question) (seats : List ℕ) (z : Divisors) → IsStrict q z seats → HaveNoSecond q seats → (x : Divisors) → ¬ IsSecond q x
 none-second q seats z strict none x (others, second) =
     let same : others ≡ seats = only_strict q z seats strict x others (second-strict q others x second) in none x (rw (← same) second)
+
+-- the seats that were tried follow from their middle
+pub tried-strict : (q : Question) (seats taken : List ℕ) (x : Divisors) (result : Bool) → taken ≡ seats → OnTrue result (IsSecondFor q seats x) →
+    IsTrue result → IsStrict q x taken
+tried-strict q seats taken x true same second passes = rw same (second-strict q seats x second)
+tried-strict q seats taken x false same second passes = absurd (false≢true passes)
