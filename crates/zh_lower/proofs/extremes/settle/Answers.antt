@@ -3,6 +3,7 @@ use Rattle.zh_matrices.specs.Asked.{asked}
 use Rattle.zh_matrices.specs.Divisors.{millionths}
 use Rattle.zh_lower.specs.Extremes.{IsRound}
 use Rattle.zh_lower.proofs.RoundLemmas.{if-in, none-yet, one-more, so-many-more, stands-still}
+use Rattle.zh_lower.proofs.SecondLemmas.{AreWithin-more}
 use Rattle.zh_lower.proofs.extremes.settle.Goals as goal
 
 pub loop-round-init : goal.loop-round-init
@@ -13,6 +14,15 @@ loop-round-init c = record {
   rounds = none-yet (asked c.args.proposal.now.question.now) c.args.top c.args.proposal.now.seats.now (millionths c.fill.new.self c.fill-2.new.self)
       (record { rows = search rules; columns = search rules });
 }
+
+pub raise_rows-requires-clause-columns : goal.raise_rows-requires-clause-columns
+raise_rows-requires-clause-columns c = AreWithin-more _ _ _ _ c.requires.at_most c.loop-round.invariant.columns
+
+pub lower_columns-requires : goal.lower_columns-requires
+lower_columns-requires c = record { rows = c.raise_rows.ensures.rows; columns = c.loop-round.invariant.columns }
+
+pub returns-in-Out-clause-columns : goal.returns-in-Out-clause-columns
+returns-in-Out-clause-columns c = c.loop-round.invariant.columns
 
 pub returns-in-Out-clause-enclose : goal.returns-in-Out-clause-enclose
 returns-in-Out-clause-enclose c = c.raise_rows.ensures.enclose c.args.top c.loop-round.invariant.enclose
@@ -63,3 +73,10 @@ loop-round-preserved c =
           (millionths c.loop-round.of_rows c.loop-round.of_columns) (millionths c.raise_rows.new.of_rows c.lower_columns.new.of_columns)
           c.loop-round.invariant.rounds round;
     }
+
+pub returns-clause-enclose : goal.returns-clause-enclose
+returns-clause-enclose c = c.loop-round.invariant.enclose
+
+pub returns-clause-rounds : goal.returns-clause-rounds
+returns-clause-rounds c =
+    let all : c.loop-round._round ≡ 1000 = omega arith in rw all at c.loop-round.invariant.rounds
