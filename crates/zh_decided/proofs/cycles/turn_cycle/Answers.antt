@@ -11,6 +11,35 @@ use Rattle.zh_decided.proofs.cycles.turn_cycle.Goals as goal
 pub loop-place-init : goal.loop-place-init
 loop-place-init c = AreTurned-start (asked c.args.question.now) c.args.cycle.now c.args.seats.now c.requires.fits
 
+pub pass-requires-clause-seats : goal.pass-requires-clause-seats
+pass-requires-clause-seats c = c.loop-place.invariant.one_each
+
+pub pass-requires-clause-giver : goal.pass-requires-clause-giver
+pass-requires-clause-giver c =
+    let can : CanPass (cells (asked c.args.question.now) c.args.seats.now) (step_at c.args.cycle.now.steps c.loop-place.place)
+    = c.requires.circle.can_pass c.loop-place.place c.loop-place-test.true in can.giver
+
+pub pass-requires-clause-taker : goal.pass-requires-clause-taker
+pass-requires-clause-taker c =
+    let can : CanPass (cells (asked c.args.question.now) c.args.seats.now) (step_at c.args.cycle.now.steps c.loop-place.place)
+    = c.requires.circle.can_pass c.loop-place.place c.loop-place-test.true in can.taker
+
+pub pass-requires-clause-column : goal.pass-requires-clause-column
+pass-requires-clause-column c =
+    let can : CanPass (cells (asked c.args.question.now) c.args.seats.now) (step_at c.args.cycle.now.steps c.loop-place.place)
+    = c.requires.circle.can_pass c.loop-place.place c.loop-place-test.true in can.column
+
+pub pass-requires-clause-seat : goal.pass-requires-clause-seat
+pass-requires-clause-seat c =
+    let can : CanPass (cells (asked c.args.question.now) c.args.seats.now) (step_at c.args.cycle.now.steps c.loop-place.place)
+    = c.requires.circle.can_pass c.loop-place.place c.loop-place-test.true in
+    omega (
+      arith,
+      can.seat,
+      c.loop-place.invariant.untouched c.loop-place.place (step_at c.args.cycle.now.steps c.loop-place.place).giver (omega arith)
+          c.loop-place-test.true can.giver,
+    )
+
 pub pass-requires-clause-few : goal.pass-requires-clause-few
 pass-requires-clause-few c =
     let can : CanPass (cells (asked c.args.question.now) c.args.seats.now) (step_at c.args.cycle.now.steps c.loop-place.place)
@@ -61,3 +90,11 @@ returns-clause-another c l slack cycle gap =
     let T : AreTurned q c.args.cycle.now c.args.cycle.now.length c.args.seats.now c.loop-place.seats = subst P all c.loop-place.invariant in
     differs q l slack c.args.seats.now c.loop-place.seats c.args.cycle.now cycle
     (turned q c.args.cycle.now c.args.seats.now c.loop-place.seats T) gap
+
+pub returns-clause-cost : goal.returns-clause-cost
+returns-clause-cost c l logs =
+    let all : c.loop-place.place ≡ c.args.cycle.now.length = omega arith in
+    let P : ℕ → Type 0 = λ k. AreTurned (asked c.args.question.now) c.args.cycle.now k c.args.seats.now c.loop-place.seats in
+    let T : AreTurned (asked c.args.question.now) c.args.cycle.now c.args.cycle.now.length c.args.seats.now c.loop-place.seats
+    = subst P all c.loop-place.invariant in
+    T.costs l logs
