@@ -13,6 +13,8 @@ mod EncloseLemmas
 mod MarkLemmas
 mod PassLemmas
 mod RoomLemmas
+mod SliceLemmas
+mod SourceLemmas
 mod StillLemmas
 mod TightLemmas
 mod TrailLemmas
