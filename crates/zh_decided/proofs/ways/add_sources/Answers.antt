@@ -16,18 +16,18 @@ loop-column-preserved c =
     let within : c.loop-column.column < length c.loop-column.sources = omega (arith, c.loop-column.invariant.long, c.args.bounds.now.question.now.sized.few_columns) in
     elim c.if-is_none.branch [
       | then-is_none w ↦ rw w.sources-is (record {
-          long = length-set c.loop-column.sources c.loop-column.column w.source_of.result ∙ c.loop-column.invariant.long;
-          some = sources-written q b c.args.seats.now c.args.ways.now c.loop-column.sources c.loop-column.column w.source_of.result within w.source_of.ensures.source
-              c.loop-column.invariant.some;
-          none = none-written q b c.args.seats.now c.args.ways.now c.loop-column.sources c.loop-column.column w.source_of.result within w.source_of.ensures.none
-              c.loop-column.invariant.none;
-        })
+        long = length-set c.loop-column.sources c.loop-column.column w.source_of.result ∙ c.loop-column.invariant.long;
+        some = sources-written q b c.args.seats.now c.args.ways.now c.loop-column.sources c.loop-column.column w.source_of.result within w.source_of.ensures.source
+            c.loop-column.invariant.some;
+        none = none-written q b c.args.seats.now c.args.ways.now c.loop-column.sources c.loop-column.column w.source_of.result within w.source_of.ensures.none
+            c.loop-column.invariant.none;
+      })
       | else-is_none w ↦ rw w.sources-is (record {
-          long = c.loop-column.invariant.long;
-          some = c.loop-column.invariant.some;
-          none = none-kept q b c.args.seats.now c.args.ways.now c.loop-column.sources c.loop-column.column c.is_none.result c.is_none.ensures w.if-is_none.false
-              c.loop-column.invariant.none;
-        })
+        long = c.loop-column.invariant.long;
+        some = c.loop-column.invariant.some;
+        none = none-kept q b c.args.seats.now c.args.ways.now c.loop-column.sources c.loop-column.column c.is_none.result c.is_none.ensures w.if-is_none.false
+            c.loop-column.invariant.none;
+      })
     ]
 
 pub returns-clause-sources : goal.returns-clause-sources

@@ -38,18 +38,18 @@ loop-row-preserved c =
     ∙ ap (λ p. potential_at c.args.rows.now c.loop-row.row - (p + c.args.bounds.taken)) c.seat_price-last.ensures.price in
     elim c.if-potential-mark.branch [
       | then-potential-mark w ↦ rw w.mark-is (record {
-          falls = omega (arith, w.if-potential-mark.true, c.loop-row.invariant.falls);
-          taken = below_more _ _ (λ d lt some. omega (arith, w.if-potential-mark.true, c.loop-row.invariant.taken d lt some)) (λ some. omega (arith, made));
-          maker = (
-            omega (arith, w.if-potential-mark.true, c.loop-row.invariant.falls),
-            record { row = c.loop-row-test.true; seat = omega (arith, c.if-self-place-eq0.false); made = made },
-          );
-        })
+        falls = omega (arith, w.if-potential-mark.true, c.loop-row.invariant.falls);
+        taken = below_more _ _ (λ d lt some. omega (arith, w.if-potential-mark.true, c.loop-row.invariant.taken d lt some)) (λ some. omega (arith, made));
+        maker = (
+          omega (arith, w.if-potential-mark.true, c.loop-row.invariant.falls),
+          record { row = c.loop-row-test.true; seat = omega (arith, c.if-self-place-eq0.false); made = made },
+        );
+      })
       | else-potential-mark w ↦ rw w.mark-is (record {
-          falls = c.loop-row.invariant.falls;
-          taken = below_more _ _ c.loop-row.invariant.taken (λ some. omega (arith, w.if-potential-mark.false, made));
-          maker = c.loop-row.invariant.maker;
-        })
+        falls = c.loop-row.invariant.falls;
+        taken = below_more _ _ c.loop-row.invariant.taken (λ some. omega (arith, w.if-potential-mark.false, made));
+        maker = c.loop-row.invariant.maker;
+      })
     ]
 
 pub returns : goal.returns
