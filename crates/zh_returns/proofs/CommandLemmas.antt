@@ -48,7 +48,7 @@ head_once One one two desk other fields others said said_other same = (omega ari
 head_once Two one two desk other fields others said said_other same = (ap (λ (bytes : List ℕ). get_or bytes 1 0) same, ap (drop 2) same)
 
 -- the bytes of a withdrawal after its head
-abbrev withdrawal_spelling : ℕ → ℕ → ℕ → List ℕ
+abbrev pub withdrawal_spelling : ℕ → ℕ → ℕ → List ℕ
 withdrawal_spelling municipality list number = to_be_bytes w16 municipality ++ (list ∷ to_be_bytes w32 number)
 
 withdrawal_once : (desk m l n m' l' n' : ℕ) → IsWithdrawal m l n → IsWithdrawal m' l' n' → withdrawal_spelling m l n ≡ withdrawal_spelling m' l' n' →

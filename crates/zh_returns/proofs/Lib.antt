@@ -1,6 +1,7 @@
 pub mod CallerLemmas
 mod BlockLemmas
 mod CommandLemmas
+mod DecodingLemmas
 mod KeyLemmas
 mod MarkLemmas
 mod NumeralLemmas
