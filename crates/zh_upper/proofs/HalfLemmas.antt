@@ -1,7 +1,7 @@
 -- Seats under a divisor that puts some weights on a half, and all other fits.
-use Rattle.std.proofs.Common.{◌≡◌, ◌≢◌, ◌∙◌, ℕ, zero, suc, ◌+◌, ◌-◌, ◌*◌, ◌<◌, ◌≤◌, List, [], ◌∷◌, length, get_or, map, set, sum, sum_by, ap, sym, inl, inr, ⊎_elim, arith}
+use Rattle.std.proofs.Common.{◌≡◌, ◌≢◌, ◌∙◌, ℕ, zero, suc, ◌+◌, ◌-◌, ◌*◌, ◌<◌, ◌≤◌, List, [], ◌∷◌, ◌++◌, length, get_or, map, set, take, sum, sum_by, ap, sym, inl, inr, ⊎_elim, arith}
 use Rattle.std.proofs.lemmas.Bool.{cases_lt, cases_eq}
-use Rattle.std.proofs.lemmas.List.{get_or-map, get_or-set_other, get_or-set_same, length-map, length-set}
+use Rattle.std.proofs.lemmas.List.{get_or-map, get_or-set_other, get_or-set_same, length-map, length-set, map_more}
 use Rattle.std.proofs.lemmas.List.Sums.{get_or-le-sum_by, sum_by-cons, sum_by-set}
 use Rattle.std.proofs.lemmas.Nat.{div_below, le-div}
 use Rattle.std.proofs.Math.Nat.{le_of_eq, lt_of_mul-lt-mul_left, mul-le-mul_left, mul-lt-mul_of_pos_left}
@@ -9,6 +9,12 @@ use Rattle.zh_divisors.specs.Fit.{IsFit}
 use Rattle.zh_divisors.proofs.CallerLemmas.{found_or_none, le_by_le, lt_by_le_lt, lt_by_lt_le, same-from_sum}
 use Rattle.zh_upper.specs.Halves.{IsFirstAbove, rounded_down, rounded_up}
 use Rattle.zh_upper.specs.Ranges.{AreSeatRanges, HasSeatRange, MayHave}
+
+-- one more weight is rounded
+pub rounded_more : (round : ℕ → ℕ) (weights before after : List ℕ) (i n : ℕ) → before ≡ map round (take i weights) → i < length weights →
+    n ≡ round (get_or weights i 0) → after ≡ before ++ n ∷ [] → after ≡ map round (take (i + 1) weights)
+rounded_more round weights before after i n are within is put =
+    put ∙ (ap (λ (seats : List ℕ). seats ++ n ∷ []) are ∙ (ap (λ (m : ℕ). map round (take i weights) ++ m ∷ []) is ∙ sym (map_more round weights i 0 within)))
 
 -- no next seat is worth more than n / m, and no last seat less
 pub record MayRoundTo (weights : List ℕ) (n m : ℕ) (seats : List ℕ) : Type 0 where

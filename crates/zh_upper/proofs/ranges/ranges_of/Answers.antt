@@ -1,5 +1,6 @@
 use Rattle.std.proofs.Common.{arith}
 use Rattle.std.proofs.lemmas.Grind.{get_or_default_zero}
+use Rattle.std.proofs.lemmas.Result.{IfOk-from_err}
 use Rattle.zh_upper.proofs.ClaimLemmas.{at_divisor, few_halves, marked}
 use Rattle.zh_upper.proofs.HalfLemmas.{are_ranges, down_small, up_small}
 use Rattle.zh_upper.proofs.ranges.ranges_of.Goals as goal
@@ -60,3 +61,45 @@ returns c =
     c.first_above-divisor.ensures.weight c.first_above-divisor.ensures.first in
     are_ranges c.args.sums.now c.args.house c.first_above-divisor.result.weight c.first_above-divisor.result.odd
     c.in_ok-each_down.field-0.items c.in_ok-each_up.field-0.items t c.in_ok-each_down.ensures c.in_ok-each_up.ensures
+
+pub new-requires-clause-not_empty : goal.new-requires-clause-not_empty
+new-requires-clause-not_empty c = omega (arith, c.requires.tied.from_within)
+
+pub new-requires-clause-at_most_32 : goal.new-requires-clause-at_most_32
+new-requires-clause-at_most_32 c = c.requires.at_most_32
+
+pub new-requires-clause-each_small : goal.new-requires-clause-each_small
+new-requires-clause-each_small c = c.requires.each_small
+
+pub same_claims-requires-clause-positive : goal.same_claims-requires-clause-positive
+same_claims-requires-clause-positive c = rw c.in_ok-weights.ensures c.requires.positive
+
+pub first_above-divisor-requires-clause-at_most_32 : goal.first_above-divisor-requires-clause-at_most_32
+first_above-divisor-requires-clause-at_most_32 c = c.requires.at_most_32
+
+pub first_above-divisor-requires-clause-each_small : goal.first_above-divisor-requires-clause-each_small
+first_above-divisor-requires-clause-each_small c = c.requires.each_small
+
+pub first_above-divisor-requires-clause-small : goal.first_above-divisor-requires-clause-small
+first_above-divisor-requires-clause-small c =
+    let is = marked c.args.sums.now c.in_ok-weights.weights c.args.house c.in_ok-claims.claims.items c.deref.result.now c.first_marked.result
+    c.in_ok-weights.ensures c.deref.ensures.value c.in_ok-claims.ensures c.requires.tied c.requires.positive c.first_marked.ensures in
+    omega (arith, c.requires.each_small c.first_marked.result 0 is.within)
+
+pub each_down-requires-clause-each_small : goal.each_down-requires-clause-each_small
+each_down-requires-clause-each_small c = c.requires.each_small
+
+pub each_up-requires-clause-each_small : goal.each_up-requires-clause-each_small
+each_up-requires-clause-each_small c = c.requires.each_small
+
+pub returns-in_err-weights : goal.returns-in_err-weights
+returns-in_err-weights c = IfOk-from_err _ _ c.from_residual.ensures.0
+
+pub returns-in_err-claims : goal.returns-in_err-claims
+returns-in_err-claims c = IfOk-from_err _ _ c.from_residual-in_err-claims.ensures.0
+
+pub returns-in_err-each_down : goal.returns-in_err-each_down
+returns-in_err-each_down c = IfOk-from_err _ _ c.from_residual-in_err-each_down.ensures.0
+
+pub returns-in_err-each_up : goal.returns-in_err-each_up
+returns-in_err-each_up c = IfOk-from_err _ _ c.from_residual-in_err-each_up.ensures.0
