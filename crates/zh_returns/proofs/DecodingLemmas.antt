@@ -103,11 +103,26 @@ module _ (bytes : List ℕ) where
   reopen_refused format kind none = record { read = tt; refused = no_reopen format kind none }
 
   no_one : (1 ≤ length bytes → 1 ≤ get_or bytes 0 0 → 6 ≤ get_or bytes 0 0) → (x : Command) → IsSpeakable One x → command_spelling One x ≡ bytes → ⊥
-  no_one none (commands.Return desk row) fits same = let some = ap (λ (b : List ℕ). length b) same in let kind = ap (λ (b : List ℕ). get_or b 0 0) same in omega (arith, none (omega arith) (omega arith))
-  no_one none (commands.Withdraw desk m l n) fits same = let some = ap (λ (b : List ℕ). length b) same in let kind = ap (λ (b : List ℕ). get_or b 0 0) same in omega (arith, none (omega arith) (omega arith))
-  no_one none (commands.Close m) fits same = let some = ap (λ (b : List ℕ). length b) same in let kind = ap (λ (b : List ℕ). get_or b 0 0) same in omega (arith, none (omega arith) (omega arith))
-  no_one none (commands.Reopen m) fits same = let some = ap (λ (b : List ℕ). length b) same in let kind = ap (λ (b : List ℕ). get_or b 0 0) same in omega (arith, none (omega arith) (omega arith))
-  no_one none (commands.Batch desk rows) fits same = let some = ap (λ (b : List ℕ). length b) same in let kind = ap (λ (b : List ℕ). get_or b 0 0) same in omega (arith, none (omega arith) (omega arith))
+  no_one none (commands.Return desk row) fits same =
+      let some = ap (λ (b : List ℕ). length b) same in
+      let kind = ap (λ (b : List ℕ). get_or b 0 0) same in
+      omega (arith, none (omega arith) (omega arith))
+  no_one none (commands.Withdraw desk m l n) fits same =
+      let some = ap (λ (b : List ℕ). length b) same in
+      let kind = ap (λ (b : List ℕ). get_or b 0 0) same in
+      omega (arith, none (omega arith) (omega arith))
+  no_one none (commands.Close m) fits same =
+      let some = ap (λ (b : List ℕ). length b) same in
+      let kind = ap (λ (b : List ℕ). get_or b 0 0) same in
+      omega (arith, none (omega arith) (omega arith))
+  no_one none (commands.Reopen m) fits same =
+      let some = ap (λ (b : List ℕ). length b) same in
+      let kind = ap (λ (b : List ℕ). get_or b 0 0) same in
+      omega (arith, none (omega arith) (omega arith))
+  no_one none (commands.Batch desk rows) fits same =
+      let some = ap (λ (b : List ℕ). length b) same in
+      let kind = ap (λ (b : List ℕ). get_or b 0 0) same in
+      omega (arith, none (omega arith) (omega arith))
 
   no_two : (1 ≤ length bytes → (get_or bytes 0 0 ≢ 3) × (get_or bytes 0 0 ≢ 4)) → (2 ≤ length bytes → get_or bytes 1 0 ≤ 8 → 6 ≤ get_or bytes 0 0 → 9 ≤ get_or bytes 0 0)
       → (x : Command) → IsSpeakable Two x → command_spelling Two x ≡ bytes → ⊥

@@ -66,31 +66,31 @@ pub returns-in_default : goal.returns-in_default
 returns-in_default c =
     let bytes = c.args.bytes.now in
     elim c.in_default.branch [
-      in_default-via-in-One+then-bytes-lt1 w ↦
-      let format : c.args.format ≡ One = search rules in
-      let short : length bytes < 1 = search rules in
-      rw format (one_refused bytes (λ some. absurd (omega arith)))
+      | in_default-via-in-One+then-bytes-lt1 w ↦
+          let format : c.args.format ≡ One = search rules in
+          let short : length bytes < 1 = search rules in
+          rw format (one_refused bytes (λ some. absurd (omega arith)))
       | in_default-via-in-One+else-bytes-lt1+in_default-1 w ↦
-      let format : c.args.format ≡ One = search rules in
-      rw format (one_refused bytes (λ some low. omega arith))
+          let format : c.args.format ≡ One = search rules in
+          rw format (one_refused bytes (λ some low. omega arith))
       | in_default-via-in-Two+then-this-lt1 w ↦
-      let format : c.args.format ≡ Two = search rules in
-      let short : length bytes < 1 = search rules in
-      rw format (two_refused bytes (λ some. absurd (omega arith)) (λ long. absurd (omega arith)))
+          let format : c.args.format ≡ Two = search rules in
+          let short : length bytes < 1 = search rules in
+          rw format (two_refused bytes (λ some. absurd (omega arith)) (λ long. absurd (omega arith)))
       | in_default-via-in-Two+else-this-lt1+then-this-lt2+in_default-1 w ↦
-      let format : c.args.format ≡ Two = search rules in
-      let short : length bytes < 2 = search rules in
-      rw format (two_refused bytes (λ some. (λ is. omega arith, λ is. omega arith)) (λ long. absurd (omega arith)))
+          let format : c.args.format ≡ Two = search rules in
+          let short : length bytes < 2 = search rules in
+          rw format (two_refused bytes (λ some. (λ is. omega arith, λ is. omega arith)) (λ long. absurd (omega arith)))
       | in_default-via-in-Two+else-this-lt1+else-this-lt2+in-6+else-this-lt9 w ↦
-      let format : c.args.format ≡ Two = search rules in
-      rw format (two_refused bytes (λ some. (λ is. omega arith, λ is. omega arith)) (λ long desk. absurd (omega arith)))
+          let format : c.args.format ≡ Two = search rules in
+          rw format (two_refused bytes (λ some. (λ is. omega arith, λ is. omega arith)) (λ long desk. absurd (omega arith)))
       | in_default-via-in-Two+else-this-lt1+else-this-lt2+in-7+else-this-lt9-2 w ↦
-      let format : c.args.format ≡ Two = search rules in
-      rw format (two_refused bytes (λ some. (λ is. omega arith, λ is. omega arith)) (λ long desk. absurd (omega arith)))
+          let format : c.args.format ≡ Two = search rules in
+          rw format (two_refused bytes (λ some. (λ is. omega arith, λ is. omega arith)) (λ long desk. absurd (omega arith)))
       | in_default-via-in-Two+else-this-lt1+else-this-lt2+in-8+else-this-lt9-3 w ↦
-      let format : c.args.format ≡ Two = search rules in
-      rw format (two_refused bytes (λ some. (λ is. omega arith, λ is. omega arith)) (λ long desk. absurd (omega arith)))
+          let format : c.args.format ≡ Two = search rules in
+          rw format (two_refused bytes (λ some. (λ is. omega arith, λ is. omega arith)) (λ long desk. absurd (omega arith)))
       | in_default-via-in-Two+else-this-lt1+else-this-lt2+in_default-1 w ↦
-      let format : c.args.format ≡ Two = search rules in
-      rw format (two_refused bytes (λ some. (λ is. omega arith, λ is. omega arith)) (λ long desk kind. omega arith))
+          let format : c.args.format ≡ Two = search rules in
+          rw format (two_refused bytes (λ some. (λ is. omega arith, λ is. omega arith)) (λ long desk kind. omega arith))
     ]

@@ -29,7 +29,7 @@ loop-row-preserved c =
     let row : ℕ = c.loop-row.row in (
       omega (arith, c.loop-row.invariant.0, c.in-Some.ensures.0, sum_to-suc row term),
       row_added c.args.votes.now c.args.columns row c.loop-row.sums.items c.push.new.self.items c.in-Some.sum c.loop-row.invariant.1 c.in-Some.ensures.0
-      (omega (arith, c.loop-row.invariant.0, c.loop-row.invariant.1.most, c.if-sum-all.false)) c.in_ok-push.ensures.items,
+          (omega (arith, c.loop-row.invariant.0, c.loop-row.invariant.1.most, c.if-sum-all.false)) c.in_ok-push.ensures.items,
     )
 
 pub votes_from-requires : goal.votes_from-requires
