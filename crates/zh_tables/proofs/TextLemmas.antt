@@ -40,3 +40,8 @@ pub record_refused : {T : Type 0} (canton : Canton) (table : Table) (result : Re
 record_refused canton table (Ok done) refusal is = tt
 record_refused canton table (Err fault) records.Memory is = subst (λ (f : ListFault). RefusesTable canton table f) (sym is) tt
 record_refused canton table (Err fault) records.Write is = subst (λ (f : ListFault). RefusesTable canton table f) (sym is) tt
+
+pub memory_refused : {T : Type 0} (canton : Canton) (table : Table) (result : Result T ListFault)
+    → IsErrAnd result (λ fault. fault ≡ faults.Memory) → IfErr result (RefusesTable canton table)
+memory_refused canton table (Ok done) is = tt
+memory_refused canton table (Err fault) is = subst (λ (f : ListFault). RefusesTable canton table f) (sym is) tt

@@ -7,7 +7,7 @@ use Rattle.zh_tables.specs.Returns.{return_columns, return_row}
 use Rattle.zh_tables.specs.Tables.{group_row, list_rows, municipality_row, problem_rows, return_rows}
 use Rattle.zh_tables.specs.declared.due.Due.{Due}
 use Rattle.zh_tables.specs.declared.tables.Table.TheVariants.{Groups, Lists, Municipalities, Problems, Returns}
-use Rattle.zh_tables.proofs.TextLemmas.{table_text}
+use Rattle.zh_tables.proofs.TextLemmas.{memory_refused, record_refused, table_text}
 use Rattle.zh_tables.proofs.tables.write_list.Goals as goal
 
 pub returns-in-Constituencies-clause-written : goal.returns-in-Constituencies-clause-written
@@ -43,3 +43,34 @@ returns-in_ok-write_returns-in-Returns-clause-written g c =
     let written : Appends old new (record_text return_columns ++ return_rows canton part) =
     subst (λ (due : List Due). Appends old new (record_text return_columns ++ flat_map return_row due)) (c.deref.ensures.value ∙ c.in_ok-due-in-Returns.ensures) c.in_ok-write_returns-in-Returns.ensures in
     rw c.in-Returns.is (table_text old new canton (Returns part) (return_rows canton part) (c.in_ok-found_in-in-Returns.ensures, refl) written)
+
+pub returns-in-Constituencies-clause-fault : goal.returns-in-Constituencies-clause-fault
+returns-in-Constituencies-clause-fault g c = rw c.in-Constituencies.is c.write_constituencies.ensures.fault
+
+pub returns-in_err-write_table-in-Municipalities-clause-fault : goal.returns-in_err-write_table-in-Municipalities-clause-fault
+returns-in_err-write_table-in-Municipalities-clause-fault g c =
+    record_refused c.args.setup.now c.args.table c.from_residual.result c.in_err-write_table-in-Municipalities.field-0.0 c.from_residual.ensures.1
+
+pub returns-in_err-write_table-in-Groups-clause-fault : goal.returns-in_err-write_table-in-Groups-clause-fault
+returns-in_err-write_table-in-Groups-clause-fault g c =
+    record_refused c.args.setup.now c.args.table c.from_residual-in_err-write_table-in-Groups.result c.in_err-write_table-in-Groups.field-0.0 c.from_residual-in_err-write_table-in-Groups.ensures.1
+
+pub returns-in_err-write_table-in-Lists-clause-fault : goal.returns-in_err-write_table-in-Lists-clause-fault
+returns-in_err-write_table-in-Lists-clause-fault g c =
+    record_refused c.args.setup.now c.args.table c.from_residual-in_err-write_table-in-Lists.result c.in_err-write_table-in-Lists.field-0.0 c.from_residual-in_err-write_table-in-Lists.ensures.1
+
+pub returns-in_err-problems-in-Problems-clause-fault : goal.returns-in_err-problems-in-Problems-clause-fault
+returns-in_err-problems-in-Problems-clause-fault g c =
+    memory_refused c.args.setup.now c.args.table c.from_residual-in_err-problems-in-Problems.result c.from_residual-in_err-problems-in-Problems.ensures.1
+
+pub returns-in_err-write_problems-in-Problems-clause-fault : goal.returns-in_err-write_problems-in-Problems-clause-fault
+returns-in_err-write_problems-in-Problems-clause-fault g c =
+    record_refused c.args.setup.now c.args.table c.from_residual-in_err-write_problems-in-Problems.result c.in_err-write_problems-in-Problems.field-0.0 c.from_residual-in_err-write_problems-in-Problems.ensures.1
+
+pub returns-in_err-due-in-Returns-clause-fault : goal.returns-in_err-due-in-Returns-clause-fault
+returns-in_err-due-in-Returns-clause-fault g c =
+    memory_refused c.args.setup.now c.args.table c.from_residual-in_err-due-in-Returns.result c.from_residual-in_err-due-in-Returns.ensures.1
+
+pub returns-in_err-write_returns-in-Returns-clause-fault : goal.returns-in_err-write_returns-in-Returns-clause-fault
+returns-in_err-write_returns-in-Returns-clause-fault g c =
+    record_refused c.args.setup.now c.args.table c.from_residual-in_err-write_returns-in-Returns.result c.in_err-write_returns-in-Returns.field-0.0 c.from_residual-in_err-write_returns-in-Returns.ensures.1
