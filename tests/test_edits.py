@@ -100,7 +100,9 @@ def test_gravest(tree):
     ("src/lib.rt", "n ≤ 90", "n ≤ 91", "zh_low zh_high"),
     ("src/lib.rt", "fn stepped(n: u64) -> u64\n    requires { n ≤ 100 }", "fn stepped(n: u64) -> u64\n    requires { n ≤ 101 }", "zh_low"),
     ("src/lib.rt", "    n + 1", "    // one more\n    n + 1", "none"),
-], ids=["a body", "a spec", "a public clause", "a private clause", "a comment"])
+    ("src/lib.rt", "specs.Next.{next}", "specs.Other.{next}", "zh_low zh_high"),
+    ("src/lib.rt", "specs.Next.{next}", "specs.Next.{next, after}", "zh_low"),
+], ids=["a body", "a spec", "a public clause", "a private clause", "a comment", "what a public clause names", "what none does"])
 def test_changed(tree, path, old, new, which):
     tree.change(f"crates/zh_low/{path}", old, new)
     tree.says(0, f"changed since their wrong bodies were tried: {which}; of the others", words=["--differ"])

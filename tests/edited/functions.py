@@ -70,11 +70,21 @@ def functions_of(file, text):
     return [it for it in declarations_of(file, text) if it.body <= it.end]
 
 
+def needed(line, text):
+    """The line without the names of clauses that this text does not use, if it is a `ghost use` of names."""
+    if not (found := re.fullmatch(r"( *ghost use [\w.+]+\.\{)(.*)\};", line)):
+        return line
+    names = [it for it in found[2].split(", ") if all(part in text for part in it.strip("◌").split("◌"))]
+    return f"{found[1]}{', '.join(names)}}};" if names else ""
+
+
 def without_bodies(text):
     """The text of a library as the crates above it see it: its types, and the public functions' signatures and clauses. Left out are
-    comments, imports, private functions and bodies; a method of a trait or of its impl is public."""
+    comments, imports, what only private functions name, private functions and bodies; a method of a trait or of its impl is public."""
     lines, gone = text.split("\n"), set()
     for it in functions_of("", text):
         is_public = it.trait or re.match(r" *pub (?!\()", lines[it.start - 1])
         gone.update(range(it.body if is_public else it.start, it.end + 1))
-    return "\n".join(it for at, it in enumerate(lines, 1) if at not in gone and not re.match(r" *(//|use |mod |$)", it))
+    kept = [it for at, it in enumerate(lines, 1) if at not in gone and not re.match(r" *(//|use |mod |$)", it)]
+    stated = "\n".join(it for it in kept if not re.match(r" *ghost use ", it))
+    return "\n".join(filter(None, (needed(it, stated) for it in kept)))
