@@ -27,7 +27,7 @@ for _slot, _place in ((1, 69632), (2, 594176)):
     PLACES.update({f"slot{_slot}": _place, f"slot{_slot}.gate": _place, f"slot{_slot}.generation": _place + 1,
                    f"slot{_slot}.payload": _place + 9, f"journal{_slot}": _place + 262400})
 # The limits of turns, in the order in which the program takes them.
-LIMITS = {"csv": ["input"], "serve": ["reads", "input", "output"], "within": ["files", "reads", "calls", "input", "output"]}
+LIMITS = {"csv": ["input"], "serve": ["reads", "input", "output"]}
 NO_LIMIT = 2**64 - 1
 WRITES = ("file", "write", "append", "replace")
 # The files in which the program gives, and is given, a disk and a count.
@@ -224,10 +224,6 @@ def asked(turn, read):
         return word, *question(read(rest).decode())
     if word == "lot":
         return word, *question(rest)
-    if word == "within":
-        limit, _, given = rest.partition("zhcount")
-        arguments, _, name = given.partition("<")
-        return word, *limits(word, limit.strip()), name.strip() or "-", *arguments.split()
     return {"save": "image", "load": "disk"}.get(word, word), *rest.split()
 
 

@@ -6,7 +6,7 @@ import re
 
 import pytest
 
-from real_files import Room
+from real_files import Room, bash
 from refusing import Preloaded
 
 VOTES = [525, 300, 175, 240, 330, 30, 90, 60, 50]  # of three lists in three municipalities
@@ -153,4 +153,23 @@ def test_stream_is_closed(task, status, folder):
         assert folder.failing(task, OUTPUT=length)[:3] == (1, whole.out[:length], "zhcount: write\n")
     for length in range(len(whole.said)):
         assert folder.failing(task, ERRORS=length)[:3] == (status, whole.out, whole.said[:length])
+    assert folder.disk.read_bytes() == folder.before
+
+
+@pytest.mark.parametrize("words, remark", [((), REMARK), (("--version",), "")], ids=["rehearsal", "version"])
+def test_stream_is_closed_without_a_disk(words, remark, folder):
+    (folder.path / "lines").write_text("1 return 1 1 1 525\n1 show 1 1\n1 show 2 1\n")
+
+    def output(**fails):
+        return folder.preloaded.run(folder.program, *words, given="lines", **fails)[:3]
+
+    status, out, said = output()
+    assert (status, said) == (0, remark) and out
+    for length in range(len(out)):
+        assert output(OUTPUT=length) == (1, out[:length], f"{remark}zhcount: write\n")
+
+
+def test_input_fails(folder):
+    """It is a folder, so that each read fails."""
+    assert folder.run(f"run {DISK}", before=bash('exec "$@" < .')) == (1, "", "zhcount: read\n")
     assert folder.disk.read_bytes() == folder.before

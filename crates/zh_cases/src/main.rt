@@ -1,13 +1,10 @@
-//! Makes the turns of cases: those of `zh_turns`, and runs of the program in memory. `tests/cases.py` reads the cases
-//! (docs/CASES.md), sends each turn and compares its answer.
+//! Makes the turns of cases that are no runs of `zhcount`. `tests/cases.py` reads the cases (docs/CASES.md), sends each turn and
+//! compares its answer.
 //!
 //! The arguments name files with set-ups; `rehearsal` is the set-up of the rehearsal. Each line of standard input is a turn,
 //! and its answer is a line of standard output. If a turn can't be made, the reason goes to standard error, and the status is 1.
 #![tactic(auto)]
 
-mod runs;
-
-use runs::run_within;
 use std::process::ExitCode;
 use std::{env, fs};
 use zh_districts::Setup;
@@ -47,10 +44,7 @@ fn setups_of(rt: &HostRuntime) -> Result<Vec<Setup>, CaseFault> {
 /// Makes a turn and prints its answer.
 fn make_turn(rt: &HostRuntime, fixture: &mut Fixture<'_>, turn: &str) -> Result<(), CaseFault> {
     let mut answer = String::new(rt.alloc());
-    match turn.strip_prefix("within ") {
-        Some(given) => run_within(rt, fixture, given, &mut answer)?,
-        None => make(fixture, turn, &mut answer)?,
-    }
+    make(fixture, turn, &mut answer)?;
     println!(rt; "{answer}")?;
     Ok(())
 }

@@ -122,13 +122,8 @@ impl<'s> Fixture<'s> {
         self.take_image(&image)
     }
 
-    /// Takes the disk that a run of the program handed over.
-    pub fn take_over(&mut self, disk: MemoryDisk) {
-        self.take(device(disk, NEVER, NEVER));
-    }
-
     /// The bytes of the disk.
-    pub fn image(&mut self) -> Result<Vec<u8>, CaseFault> {
+    pub(crate) fn image(&mut self) -> Result<Vec<u8>, CaseFault> {
         image_of(self.alloc, present(&mut self.device)?)
     }
 
@@ -178,7 +173,7 @@ impl<'s> Fixture<'s> {
         let how = stop_of(word)?;
         let mut disk = self.take_memory()?;
         disk.stop(how);
-        self.take_over(disk);
+        self.take(device(disk, NEVER, NEVER));
         Ok(())
     }
 

@@ -15,6 +15,4 @@ mod turn;
 
 pub use fault::CaseFault;
 pub use fixture::Fixture;
-pub use streams::{SlowInput, SlowOutput};
-pub use texts::{next_number, push_lines};
 pub use turn::make;

@@ -5,14 +5,14 @@ use std::io::{self, ErrorKind, Read, Write};
 
 /// Gives the bytes of a text one by one, and fails after `left` bytes.
 #[derive(Drop)]
-pub struct SlowInput<'a> {
+pub(crate) struct SlowInput<'a> {
     pub(crate) text: &'a [u8],
     left: u64,
 }
 
 impl SlowInput<'_> {
     /// An input that gives this text, and fails after this many bytes.
-    pub fn new(text: &[u8], left: u64) -> SlowInput<'_> {
+    pub(crate) fn new(text: &[u8], left: u64) -> SlowInput<'_> {
         SlowInput { text, left }
     }
 }
@@ -37,9 +37,9 @@ impl Read for SlowInput<'_> {
 
 /// Takes bytes from each write, and fails after `left` writes.
 #[derive(Drop)]
-pub struct SlowOutput {
+pub(crate) struct SlowOutput {
     /// What was written.
-    pub bytes: Vec<u8>,
+    pub(crate) bytes: Vec<u8>,
     left: u64,
     /// The most bytes that one write takes.
     takes: usize,
@@ -47,7 +47,7 @@ pub struct SlowOutput {
 
 impl SlowOutput {
     /// An output that fails after `left` writes, each of which takes at most `takes` bytes.
-    pub fn new(alloc: Global, left: u64, takes: usize) -> SlowOutput {
+    pub(crate) fn new(alloc: Global, left: u64, takes: usize) -> SlowOutput {
         SlowOutput {
             bytes: Vec::new(alloc),
             left,

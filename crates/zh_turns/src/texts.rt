@@ -19,7 +19,7 @@ pub(crate) fn number(word: &str) -> Result<u64, CaseFault> {
 }
 
 /// The number that comes next.
-pub fn next_number(words: &mut SplitWhitespace<'_>) -> Result<u64, CaseFault> {
+pub(crate) fn next_number(words: &mut SplitWhitespace<'_>) -> Result<u64, CaseFault> {
     match words.next() {
         Some(word) => number(word),
         None => Err(CaseFault::Text("a number is missing")),
@@ -52,7 +52,11 @@ pub(crate) fn push_numbers(text: &mut String, numbers: &[u64]) -> Result<(), All
 }
 
 /// Appends the lines of a text, each after the separator. An empty answer gets no separator before the first line.
-pub fn push_lines(answer: &mut String, separator: &str, text: &[u8]) -> Result<(), CaseFault> {
+pub(crate) fn push_lines(
+    answer: &mut String,
+    separator: &str,
+    text: &[u8],
+) -> Result<(), CaseFault> {
     let Ok(text) = str::from_utf8(text) else {
         return Err(CaseFault::Text("an answer is no text"));
     };
