@@ -1,7 +1,8 @@
 //! The check of a sheet and its verdict.
 ghost use Rattle.std.specs.Option.{option_copied};
-ghost use Rattle.std.specs.Prelude.{IfOk};
-ghost use Rattle.zh_check.specs.Verdicts.{IsReasonOf, IsRightExactly};
+ghost use Rattle.std.specs.Prelude.{◌≡◌, ◌≢◌, IfOk, IfSome, IsNone};
+ghost use Rattle.zh_check.specs.Differences.{DiffersAt};
+ghost use Rattle.zh_check.specs.Verdicts.{IsReasonOf, IsRightExactly, right_text};
 
 use crate::form::first_off_form;
 use crate::lines::{first_difference, is_same};
@@ -132,9 +133,25 @@ pub fn check<'s>(
     let Some(right) = recomputed(alloc, setup, text, &values)? else {
         return why_none(alloc, setup, text, values);
     };
-    let expected = text_of(alloc, &right)?;
-    if !is_same(text, &expected) {
-        return Ok(SheetVerdict::Differs(first_difference(alloc, text, &expected, &expected)?));
+    if let Some(line) = first_other_line(alloc, text, &right)? {
+        return Ok(SheetVerdict::Differs(line));
     }
     Ok(SheetVerdict::Right(right))
+}
+
+/// The first line of a text that differs from the text of a sheet, if the two differ.
+fn first_other_line(
+    alloc: Global,
+    text: &[u8],
+    right: &RightSheet<'_>,
+) -> Result<Option<WrongLine>, AllocError>
+    ensures same { IfOk result (λ wrong. IsNone wrong → text.now ≡ right_text right.now) }
+    ensures other { IfOk result (λ wrong. IfSome wrong (λ w. text.now ≢ right_text right.now)) }
+    ensures line { IfOk result (λ wrong. IfSome wrong (DiffersAt text.now (right_text right.now) (right_text right.now))) }
+{
+    let expected = text_of(alloc, right)?;
+    if is_same(text, &expected) {
+        return Ok(None);
+    }
+    Ok(Some(first_difference(alloc, text, &expected, &expected)?))
 }

@@ -1,8 +1,9 @@
-use Rattle.std.proofs.Common.{◌≡◌, true, sym, ◌∙◌, subst}
+use Rattle.std.proofs.Common.{Option, refl, sym, subst}
+use Rattle.std.specs.Prelude.{IsNone}
 use Rattle.std.specs.Option.{option_copied}
 use Rattle.std.proofs.lemmas.Result.{IfOk-weaker}
-use Rattle.zh_check.specs.Differences.{DiffersAt}
-use Rattle.zh_check.specs.Verdicts.{IsReasonOf, IsRightExactly, IsWhyNone}
+use Rattle.zh_check.specs.Verdicts.{IsReasonOf, IsRightExactly, IsWhyNone, right_text}
+use Rattle.zh_check.specs.declared.checked.WrongLine.{WrongLine}
 use Rattle.zh_check.proofs.VerdictLemmas.{differs_from, found_right, off_form, other_text, other_votes, parts_hold, why_exactly, why_reason}
 use Rattle.zh_check.proofs.checked.check.Goals as goal
 
@@ -27,25 +28,20 @@ returns-in_default-3-clause-reason c =
     IfOk-weaker c.why_none.result (IsWhyNone c.args.setup.now c.args.text.now) (IsReasonOf c.args.setup.now (option_copied c.args.held) c.args.text.now)
     (λ verdict why. why_reason c.args.setup.now (option_copied c.args.held) c.args.text.now verdict parts found why) c.why_none.ensures
 
-pub returns-then-not-is_same-clause-exactly : goal.returns-then-not-is_same-clause-exactly
-returns-then-not-is_same-clause-exactly c =
+pub returns-in-Some-4-clause-exactly : goal.returns-in-Some-4-clause-exactly
+returns-in-Some-4-clause-exactly c =
     let found = rw c.in-Some-3.is at c.in_ok-right.ensures in
-    other_text c.args.setup.now (option_copied c.args.held) c.args.text.now c.deref-2.result.now c.in-Some-3.right found
-    (c.deref-2.ensures.value ∙ c.in_ok-expected.ensures)
-    (λ e. let is : c.is_same.result ≡ true = c.is_same.ensures.1 e in let none = c.if-not-is_same.true in absurd (cc))
+    other_text c.args.setup.now (option_copied c.args.held) c.args.text.now (right_text c.in-Some-3.right) c.in-Some-3.right found refl
+    (rw c.in-Some-4.is at c.in_ok-line.ensures.other)
 
-pub returns-then-not-is_same-clause-reason : goal.returns-then-not-is_same-clause-reason
-returns-then-not-is_same-clause-reason c =
+pub returns-in-Some-4-clause-reason : goal.returns-in-Some-4-clause-reason
+returns-in-Some-4-clause-reason c =
     let found = rw c.in-Some-3.is at c.in_ok-right.ensures in
-    let parts = parts_hold c.args.setup.now (option_copied c.args.held) c.args.text.now _ _ c.in_default.is c.in_default-2.is c.in_ok-wrong.ensures c.in_ok-other.ensures in (
+    let parts = parts_hold c.args.setup.now (option_copied c.args.held) c.args.text.now _ _ c.in_default.is c.in_default-2.is c.in_ok-wrong.ensures c.in_ok-other.ensures in
+    let at = rw c.in-Some-4.is at c.in_ok-line.ensures.line in (
       parts,
-      differs_from c.args.setup.now c.args.text.now c.deref-then-not-is_same.result.now c.in_ok-first_difference.field-0 c.in-Some-3.right found
-          (c.deref-then-not-is_same.ensures.value ∙ c.in_ok-expected.ensures)
-          (λ e.
-          let is : c.is_same.result ≡ true = c.is_same.ensures.1 (e ∙ (c.deref-then-not-is_same.ensures.value ∙ sym c.deref-2.ensures.value)) in
-          let none = c.if-not-is_same.true in absurd (cc))
-          (λ differ. subst (λ s. DiffersAt c.args.text.now c.deref-then-not-is_same.result.now s c.in_ok-first_difference.field-0)
-          (c.deref-then-not-is_same-2.ensures.value ∙ sym c.deref-then-not-is_same.ensures.value) (c.in_ok-first_difference.ensures differ)),
+      differs_from c.args.setup.now c.args.text.now (right_text c.in-Some-3.right) c.in-Some-4.line c.in-Some-3.right found refl
+          (rw c.in-Some-4.is at c.in_ok-line.ensures.other) (λ _. at),
     )
 
 pub returns-clause-exactly : goal.returns-clause-exactly
@@ -53,4 +49,4 @@ returns-clause-exactly c =
     let found = rw c.in-Some-3.is at c.in_ok-right.ensures in
     let parts = parts_hold c.args.setup.now (option_copied c.args.held) c.args.text.now _ _ c.in_default.is c.in_default-2.is c.in_ok-wrong.ensures c.in_ok-other.ensures in
     found_right c.args.setup.now (option_copied c.args.held) c.args.text.now c.in-Some-3.right parts found
-    (c.is_same.ensures.0 c.if-not-is_same.false ∙ (c.deref-2.ensures.value ∙ c.in_ok-expected.ensures))
+    (c.in_ok-line.ensures.same (subst (λ (o : Option WrongLine). IsNone o) (sym c.in_default-4.is) refl))
