@@ -11,7 +11,7 @@ use Rattle.zh_sheet_text.specs.declared.line.Head.{Head}
 use Rattle.zh_sheet_text.specs.declared.line.SheetPart.TheVariants.{Accepted}
 use Rattle.zh_check.specs.Lines.{number_of_word}
 use Rattle.zh_check.specs.Reading.{head_read, is_like, latest, lists_read, totals_read, words_at}
-use Rattle.zh_check.specs.Form.{FindsOffForm, IsFormed, IsOffForm}
+use Rattle.zh_check.specs.Form.{IsFormed, IsOffForm}
 use Rattle.zh_check.specs.Others.{FindsOtherVotes, HasHeldVotes, HasOtherVotes}
 use Rattle.zh_check.specs.declared.checked.OtherVotes.{OtherVotes}
 use Rattle.zh_check.specs.Differences.{DiffersAt}
@@ -148,11 +148,11 @@ pub other_votes : (canton : Canton) (held : Option VoteTotals) (bytes : List ℕ
 other_votes canton held bytes other are c right =
     are.votes (held_votes canton held bytes c (right_recomputed canton held bytes c right) right.votes)
 
--- no line is found that is not of its kind, and no list whose votes differ from those held
-pub parts_hold : (canton : Canton) (held : Option VoteTotals) (bytes : List ℕ) (form : Option WrongLine) (votes : Option OtherVotes) →
-    form ≡ None → votes ≡ None → FindsOffForm canton bytes form → FindsOtherVotes canton held bytes votes → PartsHold canton held bytes
-parts_hold canton held bytes form votes no_form no_votes formed are = record {
-  form = subst (λ f. FindsOffForm canton bytes f) no_form formed;
+-- the text is in the form of a sheet, and no list is found whose votes differ from those held
+pub parts_hold : (canton : Canton) (held : Option VoteTotals) (bytes : List ℕ) (votes : Option OtherVotes) →
+    IsFormed canton bytes → votes ≡ None → FindsOtherVotes canton held bytes votes → PartsHold canton held bytes
+parts_hold canton held bytes votes formed no_votes are = record {
+  form = formed;
   votes = subst (λ f. FindsOtherVotes canton held bytes f) no_votes are;
 }
 

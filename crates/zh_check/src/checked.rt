@@ -2,13 +2,15 @@
 ghost use Rattle.std.specs.Option.{option_copied};
 ghost use Rattle.std.specs.Prelude.{◌≡◌, ◌≢◌, IfOk, IfSome, IsNone};
 ghost use Rattle.zh_check.specs.Differences.{DiffersAt};
+ghost use Rattle.zh_check.specs.Form.{IsFormed};
+ghost use Rattle.zh_check.specs.Reading.{IsRead};
 ghost use Rattle.zh_check.specs.Verdicts.{IsReasonOf, IsRightExactly, right_text};
 
 use crate::form::first_off_form;
 use crate::lines::{first_difference, is_same};
 use crate::others::first_other_votes;
 use crate::reasons::why_none;
-use crate::recomputed::{read, recomputed, text_of};
+use crate::recomputed::{Values, read, recomputed, text_of};
 use std::alloc::{AllocError, Global};
 use zh_districts::Setup;
 use zh_sheet::Sheet;
@@ -127,6 +129,22 @@ pub fn check<'s>(
         return Ok(SheetVerdict::OffForm(wrong));
     }
     let values = read(alloc, setup, text)?;
+    verdict_of_values(alloc, setup, text, values, held)
+}
+
+/// The verdict on a text that is in the form of a sheet, by the values that were read from it.
+fn verdict_of_values<'s>(
+    alloc: Global,
+    setup: &'s Setup,
+    text: &[u8],
+    values: Values,
+    held: Option<&Totals<'_>>,
+) -> Result<SheetVerdict<'s>, AllocError>
+    requires formed { IsFormed setup.now text.now }
+    requires read { IsRead setup.now text.now values }
+    ensures exactly { IfOk result (IsRightExactly setup.now (option_copied held.entry) text.now) }
+    ensures reason { IfOk result (IsReasonOf setup.now (option_copied held.entry) text.now) }
+{
     if let Some(other) = first_other_votes(alloc, setup, text, &values.votes, held)? {
         return Ok(SheetVerdict::OtherVotes(other));
     }

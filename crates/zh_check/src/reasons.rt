@@ -1,8 +1,8 @@
 //! Why no sheet follows from what a text shows.
 ghost use Rattle.std.specs.Prelude.{◌≡◌, ◌+◌, IfOk, length, ◌-◌, ◌*◌, ◌<◌, ◌≤◌, ℕ, All, IfSome, slice_index, option_map};
-ghost use Rattle.zh_check.specs.Reading.{IsRead, lines_above, seats_read};
+ghost use Rattle.zh_check.specs.Reading.{IsRead, lines_above, seats_read, votes_read};
 ghost use Rattle.zh_check.specs.Totals.{FindsOffAmong, FindsOffTotal, constituency_sum, group_sum, FindsUnmet, IsSaid, spaced_sum};
-ghost use Rattle.zh_check.specs.Totals.{FindsConstituencySeats, FindsGroupSeats};
+ghost use Rattle.zh_check.specs.Totals.{AreConstituencySeats, AreMet, FindsConstituencySeats, FindsGroupSeats};
 ghost use Rattle.zh_check.specs.Verdicts.{IsWhyNone};
 ghost use Rattle.zh_sheet.specs.Distribution.{HaveSeats};
 
@@ -60,30 +60,51 @@ fn first_off_group(
     Ok(Some(off))
 }
 
+/// The first group whose lists do not add up to its total, if the totals of the groups follow from these votes. The lists
+/// add up to the seats of the constituencies.
+fn first_off_group_by_votes(
+    alloc: Global,
+    setup: &Setup,
+    text: &[u8],
+    seats: &[u32],
+    votes: Vec<u64>,
+    rows: &[u32],
+) -> Result<Option<OffTotal>, AllocError>
+    requires seats { seats.now ≡ seats_read setup.now text.now }
+    requires votes { votes.items ≡ votes_read setup.now text.now }
+    requires rows { AreConstituencySeats setup.now rows.now }
+    requires met { AreMet (constituency_sum setup.now text.now) rows.now }
+    ensures { IfOk result (FindsOffTotal setup.now text.now) }
+{
+    let Some(totals) = Totals::from_votes(alloc, setup, votes)? else {
+        return Ok(None);
+    };
+    match group_seats(alloc, &totals, rows)? {
+        Some(columns) => first_off_group(alloc, setup, text, seats, &columns),
+        None => Ok(None),
+    }
+}
+
 /// The first total that the seats of the lists do not add up to, among those that follow. Constituencies come before
 /// groups.
 fn first_off_total(
     alloc: Global,
     setup: &Setup,
     text: &[u8],
-    values: Values,
+    seats: &[u32],
+    votes: Vec<u64>,
 ) -> Result<Option<OffTotal>, AllocError>
-    requires { IsRead setup.now text.now values }
+    requires seats { seats.now ≡ seats_read setup.now text.now }
+    requires votes { votes.items ≡ votes_read setup.now text.now }
     ensures { IfOk result (FindsOffTotal setup.now text.now) }
 {
     let Some(rows) = constituency_seats(alloc, setup)? else {
         return Ok(None);
     };
-    if let Some(off) = first_off_constituency(alloc, setup, text, &values.seats, rows.seats())? {
+    if let Some(off) = first_off_constituency(alloc, setup, text, seats, rows.seats())? {
         return Ok(Some(off));
     }
-    let Some(totals) = Totals::from_votes(alloc, setup, values.votes)? else {
-        return Ok(None);
-    };
-    match group_seats(alloc, &totals, rows.seats())? {
-        Some(columns) => first_off_group(alloc, setup, text, &values.seats, &columns),
-        None => Ok(None),
-    }
+    first_off_group_by_votes(alloc, setup, text, seats, votes, rows.seats())
 }
 
 /// Why no sheet follows from what was read from a text, given that none does.
@@ -99,7 +120,8 @@ pub(crate) fn why_none<'s>(
     if let Some(off) = first_off_list(alloc, setup, text, &values)? {
         return Ok(SheetVerdict::OffList(off));
     }
-    match first_off_total(alloc, setup, text, values)? {
+    let votes = values.votes;
+    match first_off_total(alloc, setup, text, &values.seats, votes)? {
         Some(off) => Ok(SheetVerdict::OffTotal(off)),
         None => Ok(SheetVerdict::NoSheet),
     }
