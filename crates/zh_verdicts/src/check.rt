@@ -1,8 +1,11 @@
 //! The check of a sheet, with the text of its verdict.
 ghost use Rattle.std.specs.Option.{option_copied};
-ghost use Rattle.std.specs.Prelude.{◌≡◌, IfOk, option_map};
+ghost use Rattle.std.specs.Prelude.{◌≡◌, IfOk, MatchBool, option_map};
+ghost use Rattle.zh_check.specs.declared.checked.RightSheet.{RightSheet};
+ghost use Rattle.zh_check.specs.declared.checked.SheetVerdict.TheVariants.{Right};
 ghost use Rattle.zh_tables.specs.HeldRows.{rows_held};
-ghost use Rattle.zh_verdicts.specs.Checks.{IsVerdict};
+ghost use Rattle.zh_verdicts.specs.Checks.{IsVerdict, SaysWrong};
+ghost use Rattle.zh_verdicts.specs.Text.{verdict_text};
 
 use crate::verdict_text::verdict_text;
 use std::alloc::{AllocError, Global};
@@ -42,6 +45,29 @@ pub struct SpelledVerdict {
     pub text: Vec<u8>,
 }
 
+/// The text of this verdict on a sheet whose votes were compared with the sums of these rows, or with nothing, and whether it
+/// is `Right`.
+fn spelled(
+    alloc: Global,
+    verdict: &SheetVerdict<'_>,
+    held: Option<HeldRows>,
+) -> Result<SpelledVerdict, AllocError>
+    ensures { IfOk result (λ spelled. (spelled.text.items ≡ verdict_text held verdict.now)
+        × MatchBool spelled.is_right ((right : RightSheet) × (verdict.now ≡ Right right)) (SaysWrong verdict.now)) }
+{
+    let text = verdict_text(alloc, verdict, held)?;
+    match verdict {
+        SheetVerdict::Right(_) => Ok(SpelledVerdict {
+            is_right: true,
+            text,
+        }),
+        _ => Ok(SpelledVerdict {
+            is_right: false,
+            text,
+        }),
+    }
+}
+
 /// Checks a sheet, given a set-up and the sums of an export if there is one, and spells the verdict.
 pub fn spelled_verdict(
     alloc: Global,
@@ -53,15 +79,5 @@ pub fn spelled_verdict(
         (record { canton = setup.now; sheet = sheet.now; held = option_copied held.entry }) spelled.is_right spelled.text.items) }
 {
     let verdict = check(alloc, setup, sheet, totals_in(held))?;
-    let text = verdict_text(alloc, &verdict, rows_in(setup, held))?;
-    match verdict {
-        SheetVerdict::Right(_) => Ok(SpelledVerdict {
-            is_right: true,
-            text,
-        }),
-        _ => Ok(SpelledVerdict {
-            is_right: false,
-            text,
-        }),
-    }
+    spelled(alloc, &verdict, rows_in(setup, held))
 }
