@@ -14,7 +14,6 @@ A run that sees all mistakes of desks or of the page writes the sum of their fil
 `make test` tries IN_TURN of them, different ones after each commit; if the sum changes, it tries all. Those of tests/real_file are slow."""
 import contextlib
 import hashlib
-import itertools
 import os
 import re
 import shutil
@@ -137,14 +136,12 @@ def keep_sums(passed):
 
 
 def controls():
-    """Each test that a plant names, once. `make test` takes one of each file: there the others run on the same text anyway."""
+    """Each test that a plant names, once. `make test` takes one of each part: there the others run on the same text anyway."""
     found = []
     for part in PARTS:
-        tests = sorted({it["seen by"] for it in part.plants().values() if "seen by" in it})
-        for _, of_a_file in itertools.groupby(tests, lambda it: it.partition("::")[0]):
-            for at, test in enumerate(of_a_file):
-                marks = (*part.marks, pytest.mark.slow) if at else part.marks
-                found.append(pytest.param(part, test, id=f"{part.name}-{test}", marks=marks))
+        for at, test in enumerate(sorted({it["seen by"] for it in part.plants().values() if "seen by" in it})):
+            marks = (*part.marks, pytest.mark.slow) if at else part.marks
+            found.append(pytest.param(part, test, id=f"{part.name}-{test}", marks=marks))
     return found
 
 

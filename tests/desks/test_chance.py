@@ -16,7 +16,7 @@ from room import running, until
 from witnessed import Witnessed
 
 pytestmark = [pytest.mark.long, pytest.mark.xdist_group("chance")]
-KILLS, SEED = int(os.environ.get("KILLS", "15")), int(os.environ.get("SEED", "86"))
+KILLS, SEED = int(os.environ.get("KILLS", "10")), int(os.environ.get("SEED", "86"))
 LINES = 100  # that are typed after each kill
 PAUSES = (0.01, 0.05, 0.1, 0.2, 0.4, 0.8)  # seconds between two kills, at most
 

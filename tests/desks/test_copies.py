@@ -15,7 +15,7 @@ from places import PROGRAM
 from processes import command_of, stand_still, stays, until
 from quiet import patient_scripts
 from room import Room, running
-from watch import Stop, WatchedRoom
+from watch import Stop, WatchedRoom, some_of
 
 ROOM = QuickRoom
 
@@ -172,13 +172,14 @@ class InNow(Stop):
 
     def __init__(self, scripts, fault, number=0):
         super().__init__(number)
-        self.scripts, self.fault, self.has_shown, self.is_over = scripts, fault, [], False
+        self.scripts, self.fault, self.kinds, self.has_shown, self.is_over = scripts, fault, [], [], False
 
     def counts(self, call):
         is_of_now = re.search(r"/office/now[^/]*(/.*)?$", call.path) and call.name != "look"
         is_ours = call.pid in self.room.pids or b"zhcount_now" in command_of(call.pid)
         is_counted = is_of_now and is_ours and not self.is_over and (self.has_shown or link_of(self.room))
         if is_counted:
+            self.kinds.append((call.pid in self.room.pids, call.name, call.path.count("/")))
             self.has_shown.append((self.room.folder / "now").exists())
         return is_counted
 
@@ -199,7 +200,7 @@ class InNow(Stop):
             self.until("now-2 alone", lambda: link_of(room) == "now-2" and names_of_now(room) == ["now", "now-2"])
             assert (room.folder / "now/held.csv").read_text().split()[1:] == ["1,1,1,525", "1,2,1,300"]
         assert all(self.has_shown) or self.number and not self.fault, "it leads to something each time"
-        return self.calls
+        return self.kinds
 
     def until(self, what, holds):
         """Waits until something holds, and starts the office again where it was stopped."""
@@ -208,11 +209,12 @@ class InNow(Stop):
         until(f"stop {self.number}: {what}", lambda: not goes_on() and holds())
 
 
+@pytest.mark.parametrize("is_all", [False, pytest.param(True, marks=pytest.mark.slow)], ids=["some", "all"])
 @pytest.mark.parametrize("fault", [0, errno.ENOSPC], ids=["kill", "fault"])
-def test_stopped(new_room, fault):
-    """kill -9, or a fault, at each call of the office and its child that makes, changes or removes something of `now`: all is shown in the
-    end, and nothing else. Where nothing is stopped it always leads to a folder that is there"""
-    calls = InNow(new_room.scripts, fault).run()
-    assert calls > 15, f"calls: {calls}"
+def test_stopped(new_room, fault, is_all):
+    """kill -9, or a fault, at calls of the office and its child that make, change or remove something of `now`, of each kind the first or
+    all: all is shown in the end, and nothing else. Where nothing is stopped it always leads to a folder that is there"""
+    kinds = InNow(new_room.scripts, fault).run()
+    assert len(kinds) > 15, f"calls: {len(kinds)}"
     with concurrent.futures.ThreadPoolExecutor(5) as pool:
-        list(pool.map(lambda number: InNow(new_room.scripts, fault, number).run(), range(1, calls + 1)))
+        list(pool.map(lambda number: InNow(new_room.scripts, fault, number).run(), some_of(kinds, is_all)))

@@ -1,5 +1,5 @@
 """Desks over a real sshd, each with a key of its own, and what a key can't do. Then a witness that is reached by ssh: the office's machine
-is lost at 50 moments, with eight desks without ssh, since 400 connections would take minutes; and the network hangs. LOSSES takes another
+is lost at 25 moments, with eight desks without ssh, since 400 connections would take minutes; and the network hangs. LOSSES takes another
 number of losses."""
 import concurrent.futures
 import os
@@ -17,7 +17,7 @@ from processes import SECONDS, Desk, command_of, until
 from room import Room, running
 from witnessed import Witnessed
 
-LOSSES = int(os.environ.get("LOSSES", "50"))
+LOSSES = int(os.environ.get("LOSSES", "25"))
 CONFIG = """HostKey {folder}/host
 AuthorizedKeysFile {folder}/keys
 StrictModes no

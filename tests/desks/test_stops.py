@@ -1,7 +1,7 @@
 """Two desks' night, in which office, desk or witness is stopped (kill -9) at its calls that open, make, change, sync or rename a file, or
 that send something; the same after a power cut before these calls, and with one of them that fails. Each time the office is started again,
-and the night goes on to its end: what the desks were shown, the log, a replay and the export have to agree. `make test` takes the first and
-the last call of each kind: at a start, among lines, at an end. `slow` takes all."""
+and the night goes on to its end: what the desks were shown, the log, a replay and the export have to agree. `make test` takes the first
+call of each kind at a start, among lines, and at an end. `slow` takes all."""
 import concurrent.futures
 import errno
 import os
@@ -14,7 +14,7 @@ import pytest
 from logs import events, first_words
 from processes import HAS_ENDED
 from room import until
-from watch import ApartRoom, Device, Stop, WatchedRoom, restore
+from watch import ApartRoom, Device, Stop, WatchedRoom, restore, some_of
 
 # Each has more processes than there are processors, so they come one after the other.
 pytestmark = [pytest.mark.long, pytest.mark.xdist_group("stops")]
@@ -109,11 +109,9 @@ def is_of_log(call):
 
 
 def each(kinds, is_all, job):
-    """Does a job for the number of each of these calls, from 1 on, or for the first and the last of each kind, until one fails."""
-    first = {kind: number for number, kind in reversed([*enumerate(kinds, 1)])}
-    last = {kind: number for number, kind in enumerate(kinds, 1)}
+    """Does a job for the number of each of these calls, from 1 on, or for the first of each kind, until one fails."""
     with concurrent.futures.ThreadPoolExecutor(AT_ONCE) as pool:
-        list(pool.map(job, range(1, len(kinds) + 1) if is_all else sorted({*first.values(), *last.values()})))
+        list(pool.map(job, some_of(kinds, is_all)))
 
 
 class StopOf(Stop):

@@ -117,6 +117,12 @@ class Stop:
         os.kill(call.pid, signal.SIGKILL)
 
 
+def some_of(kinds, is_all):
+    """The numbers of these calls, from 1 on: all of them, or the first of each kind."""
+    first = {kind: number for number, kind in reversed([*enumerate(kinds, 1)])}
+    return range(1, len(kinds) + 1) if is_all else sorted(first.values())
+
+
 class Device:
     """The bytes of files and the names in folders that are on the device, as of the last sync of each. A file is known by its inode, whose
     number is not used again while rooms are in memory."""
