@@ -102,7 +102,9 @@ def test_gravest(tree):
     ("src/lib.rt", "    n + 1", "    // one more\n    n + 1", "none"),
     ("src/lib.rt", "specs.Next.{next}", "specs.Other.{next}", "zh_low zh_high"),
     ("src/lib.rt", "specs.Next.{next}", "specs.Next.{next, after}", "zh_low"),
-], ids=["a body", "a spec", "a public clause", "a private clause", "a comment", "what a public clause names", "what none does"])
+    ("src/lib.rt", "Clone, Copy", "Clone, Copy, Debug, PartialEq, Eq", "none"),
+    ("src/lib.rt", "Clone, Copy", "Clone", "zh_low zh_high"),
+], ids=["a body", "a spec", "a public clause", "a private clause", "a comment", "what a public clause names", "what none does", "what decides nothing", "what may decide"])
 def test_changed(tree, path, old, new, which):
     tree.change(f"crates/zh_low/{path}", old, new)
     tree.says(0, f"changed since their wrong bodies were tried: {which}; of the others", words=["--differ"])

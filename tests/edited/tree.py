@@ -11,6 +11,9 @@ from edited.functions import without_bodies
 PARTS = ("src", "specs", "proofs")
 # A line of a comment: what is refused does not depend on it.
 COMMENT = re.compile(r"(?m)^[ \t]*(?://|--).*\n")
+# What a type derives, and of that what decides no goal of other code: without it the code that uses it does not compile.
+DERIVES = re.compile(r"(?m)(?<=^#\[derive\()(.*)(?=\)\]$)")
+DECIDES_NOTHING = {"Debug", "PartialEq", "Eq"}
 
 
 def sum_of(text):
@@ -67,6 +70,11 @@ class Tree:
     def without_comments(self, crate, *parts):
         return [(path, COMMENT.sub("", text)) for path, text in self.files(crate, *parts)]
 
+    def deciding(self, crate, *parts):
+        """Its files without comments, and without what is derived that decides nothing."""
+        return [(path, DERIVES.sub(lambda it: ", ".join(name for name in it[1].split(", ") if name not in DECIDES_NOTHING), text))
+                for path, text in self.without_comments(crate, *parts)]
+
     @cached_property
     def logic(self):
         """The toolchain's line without the name of the kit: two kits of one logic prove the same."""
@@ -75,18 +83,17 @@ class Tree:
 
     def stated(self, crate):
         """What the crates above see of a crate: its specs, its lemmas for callers, and its library's text without bodies."""
-        lemmas = [it for it in self.without_comments(crate, "proofs") if "CallerLemmas" in it[0]]
-        return [*self.without_comments(crate, "specs"), *lemmas,
-                *((path, without_bodies(text)) for path, text in self.without_comments(crate, "src"))]
+        lemmas = [it for it in self.deciding(crate, "proofs") if "CallerLemmas" in it[0]]
+        return [*self.deciding(crate, "specs"), *lemmas, *((path, without_bodies(text)) for path, text in self.deciding(crate, "src"))]
 
     def sums(self, crates, edits=None):
-        """For each crate the sum of all that its wrong bodies, or these, are refused for. Comments and the folders of crates and edits
-        count for nothing."""
+        """For each crate the sum of all that its wrong bodies, or these, are refused for. Comments, a derived `Debug` or `PartialEq`, and
+        the folders of crates and edits count for nothing."""
         stated, found = {it: self.stated(it) for it in self.below(*crates)}, {}
         for crate in crates:
             texts = sorted((f"{it.name}.edit", it.text) for it in (self.edits(crate) if edits is None else edits))
             below = [(it, stated[it]) for it in self.below(crate)]
-            found[crate] = sum_of(repr((self.logic, self.named[crate], self.without_comments(crate, *PARTS), texts, below)))[:32]
+            found[crate] = sum_of(repr((self.logic, self.named[crate], self.deciding(crate, *PARTS), texts, below)))[:32]
         return found
 
     def library(self, crate):

@@ -15,7 +15,7 @@ use clap::{ArgMatches, Command};
 use std::alloc::{AllocError, Global};
 
 /// What the seats are shown for.
-#[derive(Clone, Copy, Debug, PartialEq, Eq)]
+#[derive(Clone, Copy)]
 pub enum SeatsOf {
     /// For each list that stands.
     Lists,
@@ -26,7 +26,7 @@ pub enum SeatsOf {
 }
 
 /// The form of the seats: what they are shown for, and whether as CSV or as a table for people.
-#[derive(Clone, Copy, Debug, PartialEq, Eq)]
+#[derive(Clone, Copy)]
 pub struct Layout {
     pub of: SeatsOf,
     pub is_table: bool,

@@ -36,7 +36,7 @@ pub struct WrongLine {
 }
 
 /// The quotient of a list: its votes over the divisors of its constituency and its group.
-#[derive(Clone, Copy, Debug, PartialEq, Eq)]
+#[derive(Clone, Copy)]
 pub enum ListQuotient {
     /// It rounds to this number and is not on a half.
     RoundsTo(u128),

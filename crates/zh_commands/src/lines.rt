@@ -100,7 +100,7 @@ impl DeskCommand {
 }
 
 /// Why a line can't be read.
-#[derive(Clone, Copy, Debug, PartialEq, Eq, Error)]
+#[derive(Clone, Copy, Debug, Error)]
 pub enum LineFault {
     /// The line has none of the forms in `docs/FORMATS.md`, "Lines", or has more than 120 bytes.
     #[error("syntax")]

@@ -9,7 +9,7 @@ use zh_sheet::SheetRefusal;
 use zh_text::{Name, push, push_name, push_numbered, push_numeral};
 
 /// The reply to a line of a desk.
-#[derive(Clone, Copy, Debug, PartialEq, Eq)]
+#[derive(Clone, Copy)]
 pub enum Reply {
     /// The command is stored. The number counts the accepted commands, this one included.
     Stored(u64),
@@ -33,7 +33,7 @@ pub enum Reply {
 }
 
 /// Why a line is refused. `docs/FORMATS.md`, "Replies", has the names.
-#[derive(Clone, Copy, Debug, PartialEq, Eq)]
+#[derive(Clone, Copy)]
 pub enum Refusal {
     /// The line has none of the forms, or more than 120 bytes; or a record to be loaded has a field that is not a
     /// numeral, or the replacement number 0.

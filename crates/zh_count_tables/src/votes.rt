@@ -20,7 +20,7 @@ use zh_sheet_text::yes_or_no;
 use zh_totals::Totals;
 
 /// What each row of the votes so far is about.
-#[derive(Clone, Copy, Debug, PartialEq, Eq)]
+#[derive(Clone, Copy)]
 pub enum VotesOf {
     /// The lists that stand.
     Lists,

@@ -75,7 +75,7 @@ pub fn read_batch<R: Read>(
 }
 
 /// Why a text gives no batch: the first reason that applies to the first record that is refused.
-#[derive(Clone, Copy, Debug, PartialEq, Eq)]
+#[derive(Clone, Copy, PartialEq, Eq)]
 pub enum LoadFault {
     /// The first record is missing or does not name the columns, or a record does not have four fields or is too long.
     Csv,

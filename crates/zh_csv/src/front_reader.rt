@@ -87,7 +87,7 @@ impl<R: Read> Read for FrontReader<R> {
 }
 
 /// The state of the scanner that finds where records end.
-#[derive(Clone, Copy, Debug, PartialEq, Eq)]
+#[derive(Clone, Copy)]
 pub(crate) enum Point {
     /// At the start of the text, where there can be a byte order mark.
     Start,

@@ -143,7 +143,7 @@ impl<'s> Takes for RunningSums<'s> {
 
 /// What is held for a municipality and a list: the replacement number, from 1, and the votes, or `None` if the list is
 /// withdrawn.
-#[derive(Clone, Copy, Debug, PartialEq, Eq)]
+#[derive(Clone, Copy)]
 pub struct HeldRow {
     pub municipality: u32,
     pub list: u32,
@@ -193,7 +193,7 @@ fn held_row_of(csv_record: &ByteRecord) -> Result<HeldRow, LoadFault>
 }
 
 /// What is wrong with a record of an export.
-#[derive(Clone, Copy, Debug, PartialEq, Eq)]
+#[derive(Clone, Copy)]
 pub enum HeldFault {
     /// The first record is missing or does not name the columns, or a record does not have four fields or is too long.
     Csv,

@@ -19,7 +19,7 @@ use zh_returns::Row;
 use zh_text::numeral;
 
 /// Why there is no record, although the text has not ended.
-#[derive(Clone, Copy, Debug, PartialEq, Eq)]
+#[derive(Clone, Copy)]
 pub enum ReadFault {
     /// An allocation was refused.
     Memory,

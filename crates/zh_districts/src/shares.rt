@@ -13,7 +13,7 @@ use zh_divisors::{ShareFault, Shares, Weights, apportion, same_claims};
 use zh_text::Name;
 
 /// Why the constituencies get no seats.
-#[derive(Clone, Copy, Debug, PartialEq, Eq, Error)]
+#[derive(Clone, Copy, Debug, Error)]
 #[error("{}", self.name())]
 pub enum SeatFault {
     Memory,

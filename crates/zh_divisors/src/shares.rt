@@ -8,7 +8,7 @@ use thiserror::Error;
 
 /// Why an apportionment gives no seats: an allocation was refused, or a seat is worth as much to two weights,
 /// so that no divisor gives seats without a quotient on a half.
-#[derive(Clone, Copy, Debug, PartialEq, Eq, Error)]
+#[derive(Clone, Copy, Debug, Error)]
 pub enum ShareFault {
     #[error("out of memory")]
     Memory,

@@ -13,7 +13,7 @@ use sqlite_std_file::OpenError;
 use std::io::{self, Read};
 
 /// What is at a path, after links are followed.
-#[derive(Clone, Copy, Debug, PartialEq, Eq)]
+#[derive(Clone, Copy)]
 pub enum Found {
     /// A regular file with this many bytes.
     File(u64),

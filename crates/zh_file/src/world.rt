@@ -1,7 +1,7 @@
 //! Everything outside the program.
 
 /// What became of a remark, which a task makes in addition to its answer.
-#[derive(Clone, Copy, Debug, PartialEq, Eq)]
+#[derive(Clone, Copy)]
 pub enum Remark {
     /// It was written, or there was none.
     Whole,

@@ -1,7 +1,7 @@
 //! What a frame notes about a read.
 
 /// What a frame notes about a read.
-#[derive(Clone, Copy, Debug, PartialEq, Eq)]
+#[derive(Clone, Copy)]
 pub enum FrameKind {
     /// A read comes next.
     Asks,

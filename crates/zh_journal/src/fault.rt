@@ -6,7 +6,7 @@ use zh_disk::DiskFault;
 pub type AreaFault = DiskFault;
 
 /// Why an area could not be opened.
-#[derive(Clone, Copy, Debug, PartialEq, Eq, Error)]
+#[derive(Clone, Copy, Debug, Error)]
 pub enum OpenFault {
     #[error("the device failed")]
     Device,
@@ -27,7 +27,7 @@ impl From<DiskFault> for OpenFault {
 }
 
 /// Why a record could not be appended.
-#[derive(Clone, Copy, Debug, PartialEq, Eq, Error)]
+#[derive(Clone, Copy, Debug, Error)]
 pub enum AppendFault {
     #[error("the device failed")]
     Device,

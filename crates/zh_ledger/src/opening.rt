@@ -26,7 +26,7 @@ use zh_snapshot::{Store, StoreFault, SwitchFault};
 use zh_totals::RunningCount;
 
 /// Why the ledger on a disk is not opened.
-#[derive(Clone, Copy, Debug, PartialEq, Eq, Error)]
+#[derive(Clone, Copy, Debug, Error)]
 #[error("{}", self.name())]
 pub enum OpenFault {
     Memory,

@@ -76,7 +76,7 @@ impl Lower {
 }
 
 /// Why a lower apportionment gives no seats. Rows and columns are counted from 1.
-#[derive(Clone, Copy, Debug, PartialEq, Eq)]
+#[derive(Clone, Copy)]
 pub enum LowerFault {
     /// Memory was refused.
     Memory,

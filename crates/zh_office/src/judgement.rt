@@ -12,7 +12,7 @@ use zh_returns::Verdict;
 use zh_text::WriteFault;
 
 /// What a loading would do with a record.
-#[derive(Clone, Copy, Debug, PartialEq, Eq)]
+#[derive(Clone, Copy)]
 pub enum Judgement {
     /// Its row would be stored.
     Stores,
@@ -24,7 +24,7 @@ pub enum Judgement {
 /// What a loading would do with a text: how many records it would judge, how many of them it would refuse, and whether it
 /// would store one. A loading stores all of them or none. If none is refused and none would be stored, the count already
 /// holds them all.
-#[derive(Clone, Copy, Debug, PartialEq, Eq)]
+#[derive(Clone, Copy)]
 pub struct Forecast {
     pub records: u32,
     pub refused: u32,
@@ -59,7 +59,7 @@ pub(crate) fn by_verdict(verdict: Verdict) -> Judgement
 }
 
 /// Why the judging of a text stopped before its end.
-#[derive(Clone, Copy, Debug, PartialEq, Eq)]
+#[derive(Clone, Copy)]
 pub enum JudgementFault {
     /// An allocation was refused, or the crate `csv` reports an error although no read failed.
     Memory,

@@ -26,7 +26,7 @@ use zh_text::{WriteFault, put};
 const BLOCK: usize = 8192;
 
 /// The fault that ended serving.
-#[derive(Clone, Copy, Debug, PartialEq, Eq, Error)]
+#[derive(Clone, Copy, Debug, Error)]
 #[error("{}", self.name())]
 pub enum ServeFault {
     /// The reader failed.

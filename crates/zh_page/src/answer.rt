@@ -7,7 +7,7 @@ use crate::checked::check_texts;
 use std::alloc::Global;
 
 /// The result of a check, given the texts of a page.
-#[derive(Clone, Copy, Debug, PartialEq, Eq)]
+#[derive(Clone, Copy)]
 pub enum PageStatus {
     /// The sheet is right.
     Right,
@@ -30,7 +30,7 @@ pub struct PageAnswer {
 }
 
 /// Whether an answer was transferred.
-#[derive(Clone, Copy, Debug, PartialEq, Eq)]
+#[derive(Clone, Copy)]
 pub enum HandedStatus {
     /// The whole text was transferred, and this is the answer's status.
     Whole(PageStatus),

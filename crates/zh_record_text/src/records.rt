@@ -9,7 +9,7 @@ use std::io::Write;
 use thiserror::Error as ErrorOfLibrary;
 
 /// Why a record was not written in full.
-#[derive(Clone, Copy, Debug, PartialEq, Eq, ErrorOfLibrary)]
+#[derive(Clone, Copy, Debug, ErrorOfLibrary)]
 pub enum RecordFault {
     /// An allocation was refused.
     #[error("memory")]

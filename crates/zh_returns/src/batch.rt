@@ -154,7 +154,7 @@ impl<'a> BatchWriter<'a> {
 }
 
 /// A desk that sends lines. There are eight, with the numbers 1 to 8.
-#[derive(Clone, Copy, Debug, PartialEq, Eq)]
+#[derive(Clone, Copy)]
 pub struct Desk {
     pub number: u8,
     pub ghost from_one: { 1 ≤ number },

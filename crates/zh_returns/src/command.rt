@@ -34,7 +34,7 @@ pub enum Command<'a> {
 }
 
 /// How commands and counts are spelled as bytes. Format One has no desks. It is still read but no longer written.
-#[derive(Clone, Copy, Debug, PartialEq, Eq)]
+#[derive(Clone, Copy)]
 pub enum Format {
     One,
     Two,

@@ -18,7 +18,7 @@ use toml::{Table, Value};
 const LONGEST: usize = 40;
 
 /// An unknown key. One of more than 40 bytes is cut at a character and ends with three dots, 40 bytes at most.
-#[derive(Clone, Copy, Debug, PartialEq, Eq)]
+#[derive(Clone, Copy)]
 pub struct OtherKey {
     bytes: [u8; LONGEST],
     length: usize,
@@ -47,7 +47,7 @@ impl OtherKey {
 }
 
 /// A key of a set-up text.
-#[derive(Clone, Copy, Debug, PartialEq, Eq)]
+#[derive(Clone, Copy)]
 pub enum Key {
     Version,
     House,
@@ -84,7 +84,7 @@ impl Key {
 }
 
 /// The kinds of tables in a set-up text.
-#[derive(Clone, Copy, Debug, PartialEq, Eq)]
+#[derive(Clone, Copy)]
 pub enum Kind {
     Constituency,
     Municipality,
@@ -106,7 +106,7 @@ impl Kind {
 }
 
 /// The place of a fault in a set-up text: a position if the text is not TOML, otherwise a key.
-#[derive(Clone, Copy, Debug, PartialEq, Eq)]
+#[derive(Clone, Copy)]
 pub enum FaultPlace {
     At(Position),
     /// A key at the top of the document.

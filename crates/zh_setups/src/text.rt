@@ -82,7 +82,7 @@ pub fn read_setup(alloc: Global, text: &[u8]) -> Result<Setup, SetupRefusal>
 
 /// The fault of a set-up text. The checks run in this order, each over the whole document; the first that fails
 /// decides.
-#[derive(Clone, Copy, Debug, PartialEq, Eq)]
+#[derive(Clone, Copy)]
 pub enum SetupFault {
     /// An allocation was refused. This can happen at any time.
     Memory,
@@ -118,7 +118,7 @@ impl SetupFault {
 }
 
 /// The fault of a set-up text, and its place in the text if that is known.
-#[derive(Clone, Copy, Debug, PartialEq, Eq)]
+#[derive(Clone, Copy)]
 pub struct SetupRefusal {
     pub fault: SetupFault,
     pub place: Option<FaultPlace>,
@@ -141,7 +141,7 @@ impl<T: Drop> From<AllocFailed<T>> for SetupFault {
 }
 
 /// A position in a text: line and column, both from 1. Columns count characters, not bytes.
-#[derive(Clone, Copy, Debug, PartialEq, Eq)]
+#[derive(Clone, Copy)]
 pub struct Position {
     pub line: usize,
     pub column: usize,

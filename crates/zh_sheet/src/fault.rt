@@ -10,7 +10,7 @@ use zh_text::Name;
 use zh_upper::{UpperFault, UpperRefusal};
 
 /// Why no sheet is made.
-#[derive(Clone, Copy, Debug, PartialEq, Eq, Error)]
+#[derive(Clone, Copy, Debug, Error)]
 pub enum SheetFault {
     /// Memory was refused, at any time.
     #[error("out of memory")]
@@ -61,7 +61,7 @@ impl From<UpperFault> for SheetFault {
 
 /// Why there is no sheet, in the order in which the cases are checked (docs/FORMATS.md, "Replies"). Constituencies and groups
 /// are numbered from 1, as in the set-up.
-#[derive(Clone, Copy, Debug, PartialEq, Eq)]
+#[derive(Clone, Copy, Debug)]
 pub enum SheetRefusal {
     /// A seat of the house is worth as much to one constituency as to another.
     TiedSeats,

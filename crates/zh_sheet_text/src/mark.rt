@@ -8,7 +8,7 @@ use zh_commands::Refusal;
 use zh_sheet::{ExhaustedReason, Lot, Sheet, SheetRefusal};
 
 /// Where a mark comes from.
-#[derive(Clone, Copy, Debug, PartialEq, Eq)]
+#[derive(Clone, Copy)]
 pub enum Source {
     /// The count from which the seats are computed.
     Count,
@@ -29,7 +29,7 @@ impl Source {
 }
 
 /// How seats are marked: whether they are final, how many commands were accepted before, and where this comes from.
-#[derive(Clone, Copy, Debug, PartialEq, Eq)]
+#[derive(Clone, Copy)]
 pub struct Mark {
     pub is_final: bool,
     pub accepted: u64,

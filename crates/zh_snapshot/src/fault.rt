@@ -4,7 +4,7 @@ use thiserror::Error;
 use zh_disk::DiskFault;
 
 /// Why a disk could not be formatted.
-#[derive(Clone, Copy, Debug, PartialEq, Eq, Error)]
+#[derive(Clone, Copy, Debug, Error)]
 pub enum FormatFault {
     #[error("out of memory")]
     Memory,
@@ -35,7 +35,7 @@ impl From<DiskFault> for FormatFault {
 }
 
 /// Why a store could not be opened.
-#[derive(Clone, Copy, Debug, PartialEq, Eq, Error)]
+#[derive(Clone, Copy, Debug, Error)]
 pub enum OpenFault {
     #[error("the device failed")]
     Device,
@@ -88,7 +88,7 @@ impl From<zh_journal::OpenFault> for OpenFault {
 pub type StoreFault = DiskFault;
 
 /// Why a record could not be appended.
-#[derive(Clone, Copy, Debug, PartialEq, Eq, Error)]
+#[derive(Clone, Copy, Debug, Error)]
 pub enum AppendFault {
     #[error("the device failed")]
     Device,
@@ -101,7 +101,7 @@ pub enum AppendFault {
 }
 
 /// Why a store could not switch slots.
-#[derive(Clone, Copy, Debug, PartialEq, Eq, Error)]
+#[derive(Clone, Copy, Debug, Error)]
 pub enum SwitchFault {
     #[error("the device failed")]
     Device,

@@ -19,7 +19,7 @@ use zh_record_text::{RecordFault, close_table, open_table, write_record};
 const MOST_LOADED: usize = 1_000;
 
 /// A return that is due.
-#[derive(Clone, Copy, Debug, PartialEq, Eq)]
+#[derive(Clone, Copy)]
 pub struct Due {
     pub municipality: u32,
     pub list: u32,

@@ -12,7 +12,7 @@ use zh_record_text::RecordFault;
 use zh_text::Name;
 
 /// Why a table was not written in full.
-#[derive(Clone, Copy, Debug, PartialEq, Eq, Error)]
+#[derive(Clone, Copy, Debug, Error)]
 #[error("{}", self.name())]
 pub enum ListFault {
     /// The constituencies get no seats, or an allocation was refused while the seats were computed.

@@ -7,7 +7,7 @@ ghost use Rattle.zh_tables.specs.Returns.{returns_in};
 use zh_districts::Setup;
 
 /// How many rows an export has, and how many returns are due.
-#[derive(Clone, Copy, Debug, PartialEq, Eq)]
+#[derive(Clone, Copy)]
 pub struct HeldRows {
     pub held: u32,
     /// One for each list that stands, in each municipality.

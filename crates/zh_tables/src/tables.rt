@@ -15,7 +15,7 @@ use zh_districts::{Setup, seats};
 use zh_record_text::{NumberedRows, RecordFault, write_each, write_record, write_table};
 
 /// A part of a set-up.
-#[derive(Clone, Copy, Debug, PartialEq, Eq)]
+#[derive(Clone, Copy)]
 pub enum Part {
     /// All of it.
     Whole,
@@ -26,7 +26,7 @@ pub enum Part {
 }
 
 /// A table of a set-up.
-#[derive(Clone, Copy, Debug, PartialEq, Eq)]
+#[derive(Clone, Copy)]
 pub enum Table {
     /// Each constituency with its persons and its seats.
     Constituencies,

@@ -10,7 +10,7 @@ use zh_returns::Count;
 use zh_text::{push, push_numbered, push_numeral};
 
 /// A view of the returns.
-#[derive(Clone, Copy, Debug, PartialEq, Eq)]
+#[derive(Clone, Copy)]
 pub enum View {
     /// Each municipality, with how many of its returns are in.
     Municipalities,

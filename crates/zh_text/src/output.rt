@@ -6,7 +6,7 @@ use std::io::Write;
 use thiserror::Error;
 
 /// A write returned an error or took no byte.
-#[derive(Clone, Copy, Debug, PartialEq, Eq, Error)]
+#[derive(Clone, Copy, Debug, Error)]
 #[error("write")]
 pub struct WriteFault;
 

@@ -9,7 +9,7 @@ use std::alloc::AllocError;
 
 /// Whether a byte order mark and a CR are shown by name. Without a name they become question marks, as all other control
 /// characters do.
-#[derive(Clone, Copy, Debug, PartialEq, Eq)]
+#[derive(Clone, Copy)]
 pub enum ShownNames {
     /// Neither.
     None,

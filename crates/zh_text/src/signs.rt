@@ -4,7 +4,7 @@ ghost use Rattle.std.specs.Prelude.{◌≡◌, ◌<◌, length};
 ghost use Rattle.zh_text.specs.Signs.{begins_control, begins_mark, follows_control, follows_mark, is_further, sign_at};
 
 /// What a byte of a text is part of.
-#[derive(Clone, Copy, Debug, PartialEq, Eq)]
+#[derive(Clone, Copy)]
 pub(crate) enum Sign {
     /// The first byte of a byte order mark.
     Mark,

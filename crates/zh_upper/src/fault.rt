@@ -8,7 +8,7 @@ use thiserror::Error;
 use zh_divisors::ShareFault;
 
 /// Why the groups get no seats, including refused memory.
-#[derive(Clone, Copy, Debug, PartialEq, Eq, Error)]
+#[derive(Clone, Copy, Debug, Error)]
 pub enum UpperFault {
     /// Memory was refused.
     #[error("out of memory")]
@@ -40,7 +40,7 @@ impl From<ShareFault> for UpperFault {
 }
 
 /// Why the groups get no seats, in the order in which the cases are checked.
-#[derive(Clone, Copy, Debug, PartialEq, Eq)]
+#[derive(Clone, Copy, Debug)]
 pub enum UpperRefusal {
     /// No group takes part.
     NoGroup,
