@@ -104,7 +104,8 @@ def test_gravest(tree):
     ("src/lib.rt", "specs.Next.{next}", "specs.Next.{next, after}", "zh_low"),
     ("src/lib.rt", "Clone, Copy", "Clone, Copy, Debug, PartialEq, Eq", "none"),
     ("src/lib.rt", "Clone, Copy", "Clone", "zh_low zh_high"),
-], ids=["a body", "a spec", "a public clause", "a private clause", "a comment", "what a public clause names", "what none does", "what decides nothing", "what may decide"])
+], ids=["a body", "a spec", "a public clause", "a private clause", "a comment", "what a public clause names", "what none does",
+        "what decides nothing", "what may decide"])
 def test_changed(tree, path, old, new, which):
     tree.change(f"crates/zh_low/{path}", old, new)
     tree.says(0, f"changed since their wrong bodies were tried: {which}; of the others", words=["--differ"])
