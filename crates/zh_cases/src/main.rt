@@ -5,11 +5,25 @@
 //! and its answer is a line of standard output. If a turn can't be made, the reason goes to standard error, and the status is 1.
 #![tactic(auto)]
 
+mod answer;
+mod disk;
+mod fault;
+mod fixture;
+mod numbers;
+mod office;
+mod question;
+mod reason;
+mod streams;
+mod texts;
+mod turn;
+
+use fault::CaseFault;
+use fixture::Fixture;
 use std::process::ExitCode;
 use std::{env, fs};
+use turn::make;
 use zh_districts::Setup;
 use zh_setups::{read_setup, rehearsal};
-use zh_turns::{CaseFault, Fixture, make};
 
 fn main(rt: HostRuntime) -> ExitCode {
     match run(&rt) {

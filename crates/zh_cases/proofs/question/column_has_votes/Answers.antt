@@ -1,5 +1,5 @@
 use Rattle.std.proofs.Common.{arith}
-use Rattle.zh_turns.proofs.question.column_has_votes.Goals as goal
+use Rattle.zh_cases.proofs.question.column_has_votes.Goals as goal
 use Rattle.zh_divisors.proofs.CallerLemmas.{term-le-sum_to}
 use Rattle.zh_matrices.specs.Asked.{asked}
 use Rattle.zh_matrices.specs.Question.{column_votes}

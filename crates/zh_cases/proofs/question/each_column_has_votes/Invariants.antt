@@ -1,5 +1,5 @@
 use Rattle.std.proofs.Common.{ℕ, ◌<◌}
-use Rattle.zh_turns.proofs.question.each_column_has_votes.Given as goal
+use Rattle.zh_cases.proofs.question.each_column_has_votes.Given as goal
 use Rattle.zh_matrices.specs.Asked.{asked}
 use Rattle.zh_matrices.specs.Question.{HasVotes, column_votes}
 
