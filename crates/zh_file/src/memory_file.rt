@@ -1,4 +1,4 @@
-//! A file in memory, for tests.
+//! The files of a folder in memory.
 ghost use Rattle.std.proofs.Common.{inl};
 ghost use Rattle.std.specs.Prelude.{◌≡◌, refl};
 ghost use Rattle.sqlite_disk.specs.Fuse.{IsFresh, calls_left, inner_of};

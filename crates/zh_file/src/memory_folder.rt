@@ -1,4 +1,4 @@
-//! A folder in memory, for tests.
+//! A folder in memory. No task uses it: it shows that a folder can meet all clauses of `Folder`.
 mod calls;
 
 ghost use Rattle.std.specs.Prelude.{◌≡◌, ◌≢◌, ◌⊎◌, ◌-◌, ◌^◌, ◌++◌, ◌↔◌, ℕ, List, codes, length, string_bytes};
@@ -71,7 +71,7 @@ fn stood_at<'a>(all: &'a [Placed], path: &str) -> Option<&'a Stood>
 }
 
 impl<R> MemoryFolder<R> {
-    /// An empty folder. So many calls pass that no call of a test fails.
+    /// An empty folder. More calls pass than are ever made.
     pub fn new(alloc: Global) -> MemoryFolder<R>
         ensures empty { (path : List ℕ) → standing_at result path ≡ nothing }
         ensures passing { (result.calls ≡ 2 ^ 64 - 1) × (result.reads ≡ 2 ^ 64 - 1) × (result.file_calls ≡ 2 ^ 64 - 1) }
